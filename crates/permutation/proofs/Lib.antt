@@ -1,0 +1,9 @@
+mod Tables
+mod Fills
+mod Rows
+mod Mixing
+mod Shapes
+mod Turns
+mod Codes
+mod Inverses
+mod Viewed

@@ -1,0 +1,11 @@
+use borrow.Author.Needs.{needs}
+use Rattle.permutation.proofs.Viewed.{four}
+use Rattle.permutation.proofs.state.Matrix.xor.Needs as need
+
+pub returns : need.returns
+returns c =
+    let self = four (c .args .self) (search needs)
+    (c .index-self-0 .result) (c .index-self-1 .result) (c .index-self-2 .result) (c .index-self-3 .result) in
+    let other = four (c .args .other) (search needs)
+    (c .index-other-0 .result) (c .index-other-1 .result) (c .index-other-2 .result) (c .index-other-3 .result) in
+    cc

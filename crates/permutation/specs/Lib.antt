@@ -1,0 +1,4 @@
+pub mod Blocks
+pub mod BlockLaws
+pub mod Minalpher
+pub mod Views
