@@ -1,0 +1,10 @@
+use mathlib.Core.Path.{ap, _∙_}
+use Rattle.permutation.specs.Blocks.{_⊕_}
+use Rattle.modes.specs.Cipher.{masked}
+use Rattle.modes.proofs.mask.Mask.decipher.Needs as need
+
+pub returns : need.returns
+unfolding masked
+returns g c =
+    c .xor-blocks-2 .ensures
+    ∙ ap (λ y. c .args .self .bytes ⊕ y) (c .backward .ensures ∙ ap (g .K·Permutation .back) (c .xor-blocks .ensures))

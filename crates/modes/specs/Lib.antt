@@ -1,0 +1,11 @@
+pub mod Refusals
+pub mod Masks
+pub mod Keys
+pub mod Cipher
+pub mod RefusalLaws
+pub mod MaskLaws
+pub mod CipherLaws
+pub mod Sums
+pub mod SumLaws
+pub mod PlateLaws
+pub mod Worked
