@@ -1,0 +1,119 @@
+// The words of a case.
+ghost use mathlib.Core.Path.{_≡_};
+ghost use Rattle.std.specs.Of.Vec.{vec-items};
+ghost use Rattle.std.specs.Results.{Cases};
+ghost use Rattle.std.specs.Vec.{made};
+ghost use Rattle.text.specs.Hex.{Spells};
+ghost use Rattle.vectors.specs.declared.case.Fault.the-variants.{Malformed, Declined, Memory};
+ghost use Rattle.vectors.specs.Lines.{Writes, usage-name};
+use modes::cipher::Usage;
+use modes::refusal::Refusal;
+use std::alloc::AllocError;
+use std::alloc::Global;
+use std::alloc::Refused;
+use text::hex::HexError;
+use text::hex::parse_hex;
+
+// Why a case has no value.
+#[derive(Clone, Copy)]
+pub enum Fault {
+    Malformed,
+    Declined(Refusal),
+    Memory,
+}
+
+pub impl From<Refusal> for Fault as FaultFromRefusal {
+    ghost converts = { λ e r. r ≡ Declined e };
+
+    fn from(refusal: Refusal) -> Fault {
+        Fault::Declined(refusal)
+    }
+}
+
+pub impl From<HexError> for Fault as FaultFromHex {
+    fn from(error: HexError) -> Fault {
+        match error {
+            HexError::Memory => Fault::Memory,
+            _ => Fault::Malformed,
+        }
+    }
+}
+
+pub impl From<AllocError> for Fault as FaultFromAlloc {
+    ghost converts = { λ _ r. r ≡ Memory };
+
+    fn from(_e: AllocError) -> Fault {
+        Fault::Memory
+    }
+}
+
+pub impl<T: Drop> From<Refused<T>> for Fault as FaultFromRefused {
+    ghost converts = { λ _ r. r ≡ Memory };
+
+    fn from(_e: Refused<T>) -> Fault {
+        Fault::Memory
+    }
+}
+
+// Byte strings are in lower case, and the empty one is a dash.
+pub fn bytes_of(heap: Global, word: &str) -> Result<Vec<u8>, Fault>
+    ensures { λ r. ⌜ made r (λ v. Writes (now (word .entry)) (vec-items v)) ⌝ }
+{
+    if word == "-" {
+        return Ok(Vec::new(heap));
+    }
+    if word.is_empty() || has_upper(word) {
+        return Err(Fault::Malformed);
+    }
+    Ok(parse_hex(heap, word.as_bytes())?)
+}
+
+fn has_upper(word: &str) -> bool {
+    for b in word.as_bytes() {
+        if b.is_ascii_uppercase() {
+            return true;
+        }
+    }
+    false
+}
+
+pub fn byte_of(heap: Global, word: &str) -> Result<u8, Fault> {
+    match bytes_of(heap, word)?.as_slice() {
+        [byte] => Ok(*byte),
+        _ => Err(Fault::Malformed),
+    }
+}
+
+pub fn block_of(heap: Global, word: &str) -> Result<[u8; 32], Fault>
+    ensures { λ r. ⌜ made r (λ b. Spells (now (word .entry)) b) ⌝ }
+{
+    let bytes = bytes_of(heap, word)?;
+    if bytes.len() != 32 {
+        return Err(Fault::Malformed);
+    }
+    let mut block = [0u8; 32];
+    block.copy_from_slice(bytes.as_slice());
+    Ok(block)
+}
+
+pub fn number_of(word: &str) -> Result<usize, Fault> {
+    // A sign is no digit, though `parse` takes one.
+    if word.starts_with("+") {
+        return Err(Fault::Malformed);
+    }
+    match word.parse::<usize>() {
+        Ok(number) => Ok(number),
+        Err(_) => Err(Fault::Malformed),
+    }
+}
+
+pub fn usage_of(word: &str) -> Result<Usage, Fault>
+    ensures { λ r. ⌜ Cases r (λ u. now (word .entry) ≡ usage-name u) (λ e. e ≡ Malformed) ⌝ }
+{
+    match word {
+        "label" => Ok(Usage::Label),
+        "text" => Ok(Usage::Text),
+        "plate" => Ok(Usage::Plate),
+        _ => Err(Fault::Malformed),
+    }
+}

@@ -1,0 +1,17 @@
+// Answers cases, one a line, so that another program's answers can be compared with these.
+mod answer;
+mod case;
+
+use answer::AnswerDisplay;
+use std::io;
+use std::io::BufReadMethods;
+use std::io::BufReader;
+
+fn main(rt: LibcRuntime) -> io::Result<()> {
+    let heap = rt.alloc();
+    for line in BufReader::new(rt.stdin()).lines(heap) {
+        let answer = answer::answer_line(heap, line?.as_str())?;
+        println!(rt, "{answer}")?;
+    }
+    Ok(())
+}
