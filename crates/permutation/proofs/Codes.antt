@@ -18,13 +18,13 @@ use Rattle.permutation.proofs.Rows.{IsRow, is-row, row-at}
 use Rattle.permutation.proofs.Shapes.{IsState, same-matrix, same-state}
 
 -- nibbles 2k and 2k + 1 are the halves of byte k
-high : (x : List ℕ) (n k : ℕ) → n ≡ 2 * k → nibble x n ≡ getD x k 0 / 16
+pub high : (x : List ℕ) (n k : ℕ) → n ≡ 2 * k → nibble x n ≡ getD x k 0 / 16
 high x n k e =
     let half : n / 2 ≡ k = omega arith in
     cond-true (eqb (n % 2) 0) (getD x (n / 2) 0 / 16) (getD x (n / 2) 0 % 16) (eq-eqb (n % 2) 0 (omega arith))
     ∙ ap (λ i. getD x i 0 / 16) half
 
-low : (x : List ℕ) (n k : ℕ) → n ≡ 2 * k + 1 → nibble x n ≡ getD x k 0 % 16
+pub low : (x : List ℕ) (n k : ℕ) → n ≡ 2 * k + 1 → nibble x n ≡ getD x k 0 % 16
 low x n k e =
     let half : n / 2 ≡ k = omega arith in
     cond-false (eqb (n % 2) 0) (getD x (n / 2) 0 / 16) (getD x (n / 2) 0 % 16) (ne-eqb (n % 2) 0 (λ z. omega arith))

@@ -7,3 +7,6 @@ mod Turns
 mod Codes
 mod Inverses
 mod Viewed
+mod Places
+mod Planes
+mod Bytes

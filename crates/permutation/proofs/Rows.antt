@@ -20,6 +20,9 @@ pub record IsRow (x : List ℕ) : Type 0 where
 pub row-at : (f : ℕ → ℕ) (j : ℕ) → j < 8 → getD (row f) j 0 ≡ f j
 row-at f j h = getD-map-counting f 0 8 j j 0 h (omega arith)
 
+pub same-row : (f g : ℕ → ℕ) → ((j : ℕ) → j < 8 → f j ≡ g j) → row f ≡ row g
+same-row f g e = same-entries 8 (row f) (row g) refl refl (λ j h. row-at f j h ∙ e j h ∙ sym (row-at g j h))
+
 pub is-row : (f : ℕ → ℕ) → ((j : ℕ) → j < 8 → f j < 16) → IsRow (row f)
 is-row f k = record { eight = refl; nibbles = λ j h. subst (λ (n : ℕ). n < 16) (sym (row-at f j h)) (k j h) }
 

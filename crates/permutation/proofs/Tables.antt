@@ -11,11 +11,11 @@ use Rattle.std.proofs.shelf.Tests.{and-parts, eqb-true, ltb-true}
 use Rattle.permutation.specs.Minalpher.{sub, p1, q1, p2, q2}
 
 -- the test f passes at each number below n
-abbrev all-below : (ℕ → Bool) → ℕ → Bool
+abbrev pub all-below : (ℕ → Bool) → ℕ → Bool
 all-below f zero = true
 all-below f (suc n) = f n && all-below f n
 
-at-each : (f : ℕ → Bool) (n : ℕ) → all-below f n ≡ true → (k : ℕ) → k < n → f k ≡ true
+pub at-each : (f : ℕ → Bool) (n : ℕ) → all-below f n ≡ true → (k : ℕ) → k < n → f k ≡ true
 at-each f zero t k h = absurd (not-suc-le-zero h)
 at-each f (suc n) t k h =
     let both = and-parts (f n) (all-below f n) t in

@@ -7,7 +7,9 @@ ghost use Rattle.permutation.specs.Blocks.{Inverse};
 mod coding;
 mod layers;
 pub mod minalpher;
+mod packing;
 mod state;
+pub mod words;
 
 // A kind of permutation: two functions on blocks, each of which undoes the other. Neither declines.
 pub trait Permutation {

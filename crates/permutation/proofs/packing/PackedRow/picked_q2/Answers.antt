@@ -1,0 +1,14 @@
+use borrow.Author.Needs.{needs}
+use mathlib.Core.Path.{refl, ap}
+use mathlib.Core.List.{[], _∷_}
+use lib.Bits.{or-zero-r}
+use Rattle.permutation.specs.Minalpher.{picked}
+use Rattle.permutation.proofs.Places.{bits-or, bits-right, bits-left, bits-gone, mask-keeps, mask-clears, rotated}
+use Rattle.permutation.proofs.packing.PackedRow.picked_q2.Needs as need
+
+-- the list says where the nibbles of the rotated word go
+pub returns : need.returns
+returns c =
+    let turned = rotated 16 (c .args .self .word) (c .rotate-right-w .result) refl (search needs) (c .rotate-right-w .ensures) in
+    simp (bits-or, mask-keeps, mask-clears, bits-right 4 20, bits-right 4 28, bits-left 4 24, bits-gone 4 24, or-zero-r)
+    (ap (picked (6 ∷ 7 ∷ 2 ∷ 3 ∷ 4 ∷ 5 ∷ 1 ∷ 0 ∷ [])) turned)
