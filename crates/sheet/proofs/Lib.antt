@@ -1,0 +1,12 @@
+pub mod Texts
+pub mod Masking
+pub mod Filling
+pub mod Claims
+pub mod Totals
+pub mod Ending
+pub mod Openings
+pub mod Laws
+pub mod Reopening
+pub mod WorkedSheets
+pub mod Chunking
+pub mod Noting

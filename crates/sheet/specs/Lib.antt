@@ -1,0 +1,13 @@
+pub mod Holders
+pub mod Ciphers
+pub mod Sealing
+pub mod Calls
+pub mod Opening
+pub mod Holding
+pub mod Sheets
+pub mod Worked
+pub mod Chunks
+pub mod ChunkLaws
+pub mod Lent
+pub mod Notes
+pub mod NoteLaws
