@@ -14,9 +14,9 @@ use crate::failure::Misuse;
 use crate::failure::key_failure;
 use modes::plate::plate_check;
 use modes::plate::plate_mac;
-use permutation::minalpher::MatricesPermutation;
-use permutation::minalpher::Minalpher;
 use permutation::minalpher::SeventeenCount;
+use permutation::words::RowWords;
+use permutation::words::WordsPermutation;
 use std::alloc::Global;
 use std::fs;
 use std::io::ReadMethods;
@@ -24,7 +24,7 @@ use text::hex::parse_hex;
 use text::hex::to_hex;
 
 // The permutation that all commands use.
-type Kind = Minalpher;
+type Kind = RowWords;
 
 #[derive(Drop)]
 pub enum Outcome {
