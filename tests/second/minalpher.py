@@ -15,8 +15,8 @@ LABEL_MAX = 4096
 I_MAX = 8191
 J_MAX = 2
 
-# Rounds of each permutation kind.
-ROUNDS = {"matrices": 17, "one": 1, "zero": 0}
+# Rounds of each permutation kind. How a kind keeps its state is no matter here.
+ROUNDS = {"matrices": 17, "rows": 17, "one": 1, "zero": 0}
 
 # The three bytes of each use.
 USES = {

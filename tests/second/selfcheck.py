@@ -10,7 +10,10 @@ sys.dont_write_bytecode = True
 
 import answers
 import cases
+import fast
+import holders
 import minalpher as mp
+import sheets
 
 passed = 0
 failed = 0
@@ -289,29 +292,294 @@ def check_refusals():
               declined(mp.plate_check, *arguments) == (number, "cipher", 0))
 
 
+def check_fast(source):
+    for rounds in (0, 1, 2, 5, 16, 17, 18):
+        for n in range(20):
+            block = random_bytes(source, 32)
+            check("forward by tables, %d rounds, %d" % (rounds, n),
+                  fast.forward(rounds, block) == mp.forward(rounds, block))
+            check("backward by tables, %d rounds, %d" % (rounds, n),
+                  fast.backward(rounds, block) == mp.backward(rounds, block))
+    for value in range(256):
+        for rounds in (0, 1):
+            block = bytes([value]) * 32
+            check("bytes %02X by tables, %d rounds" % (value, rounds),
+                  fast.forward(rounds, block) == mp.forward(rounds, block)
+                  and fast.backward(rounds, block)
+                  == mp.backward(rounds, block))
+
+
+def plain_sheet(rounds, key, nonce, label, text):
+    """Sealed blocks and tag, by the plain cipher and one mask at a time."""
+    padded = mp.pad(text)
+    m = len(padded) // 32
+
+    def sealed(i, j, block):
+        return mp.tem(rounds, key, "text", nonce, i, j, block)
+
+    blocks = [sealed(2 * k - 1, 0, mp.block_of(padded, k))
+              for k in range(1, m + 1)]
+    total = mp.label_sum(rounds, key, label)
+    for k in range(1, m):
+        total = mp.xor(total, sealed(2 * k, 0, blocks[k - 1]))
+    total = mp.xor(total, blocks[m - 1])
+    return blocks, sealed(2 * m - 1, 1, total)[:16]
+
+
+def check_worked_sheet():
+    state, blocks = sheets.seal(0, ZERO_KEY, ZERO_NONCE, b"", b"", 1, [])
+    check("zero rounds: the empty text is sealed to one block",
+          blocks == [hexed("BBBB2BBB BBBBBBBB BBBBBBBB BB003240"
+                           "BBBABBFB BBBBBBBB BBBBBBBB 0070BBD5")])
+    tag = hexed("E090E000 00000000 BB000000 9800C9BB")
+    check("zero rounds: the tag of the sheet", sheets.tag(state) == tag)
+    check("zero rounds: the sheet is opened to the empty text",
+          sheets.open_sheet(0, ZERO_KEY, ZERO_NONCE, b"", tag, blocks)
+          == state and sheets.read(state, blocks, 0, 0) == b"")
+
+    for length, count in ((0, 1), (31, 1), (32, 2), (63, 2), (64, 3),
+                          (131039, 4095), (131040, 4096), (131071, 4096)):
+        check("%d bytes have %d blocks" % (length, count),
+              sheets.block_count(length) == count
+              and len(mp.pad(bytes(length))) == 32 * count)
+    for length, count in ((0, 1), (31, 1), (32, 2), (131071, 4096)):
+        state, blocks = sheets.seal(0, ZERO_KEY, ZERO_NONCE, b"",
+                                    bytes(length), 4096, [])
+        check("%d bytes are sealed to %d blocks" % (length, count),
+              len(blocks) == count and state.length == length)
+    check("131072 bytes are declined by 8",
+          declined(sheets.seal, 0, ZERO_KEY, ZERO_NONCE, b"", bytes(131072),
+                   4096, []) == (8, "sheet", 0))
+
+
+def check_sheets(source):
+    for kind in ("matrices", "one", "zero"):
+        rounds = mp.ROUNDS[kind]
+        for length in (0, 1, 31, 32, 33, 63, 64, 100, 200):
+            key, nonce = random_bytes(source, 16), random_bytes(source, 13)
+            label = random_bytes(source, source.getrandbits(6))
+            text = random_bytes(source, length)
+            name = "%s, %d bytes" % (kind, length)
+            state, blocks = sheets.seal(rounds, key, nonce, label, text,
+                                        4096, [])
+            tag = sheets.tag(state)
+            check("sealed by the plain cipher, " + name,
+                  (blocks, tag)
+                  == plain_sheet(rounds, key, nonce, label, text))
+            check("what was sealed is opened, " + name,
+                  sheets.open_sheet(rounds, key, nonce, label, tag, blocks)
+                  == state)
+            check("what was sealed is read, " + name,
+                  sheets.read(state, blocks, 0, length) == text)
+            check("every part is read, " + name, all(
+                sheets.read(state, blocks, at, n) == text[at:at + n]
+                for at in range(0, length + 1, 1 + length // 9)
+                for n in range(0, length - at + 1, 1 + length // 9)))
+            if kind != "zero":
+                # With no rounds not every byte reaches the tag.
+                for place in range(0, 32 * len(blocks), 13):
+                    changed = list(blocks)
+                    changed[place // 32] = cases.with_xor(
+                        changed[place // 32], [(place % 32, 0x11)])
+                    check("a changed byte %d, %s" % (place, name),
+                          declined(sheets.open_sheet, rounds, key, nonce,
+                                   label, tag, changed) == (16, "sheet", 0))
+
+    text = cases.long_bytes(131071, 5)
+    key, nonce = random_bytes(source, 16), random_bytes(source, 13)
+    state, blocks = sheets.seal(17, key, nonce, b"long", text, 4096, [])
+    check("the longest text is opened again",
+          sheets.open_sheet(17, key, nonce, b"long", sheets.tag(state),
+                            blocks) == state
+          and sheets.read(state, blocks, 0, 131071) == text)
+    check("its last block has the plain cipher's mask 8191",
+          blocks[4095] == mp.tem(17, key, "text", nonce, 8191, 0,
+                                 text[131040:] + b"\x80"))
+
+
+def check_padding(source):
+    for kind in ("matrices", "one", "zero"):
+        rounds = mp.ROUNDS[kind]
+        key, nonce = random_bytes(source, 16), random_bytes(source, 13)
+        for before in (0, 1, 2):
+            front = [random_bytes(source, 32) for _ in range(before)]
+            for name, last, end in (
+                    ("zeros", ZERO_BLOCK, None),
+                    ("40 and zeros", b"\x40" + bytes(31), None),
+                    ("bytes, 40 and zeros",
+                     b"\x80\x12\x40" + bytes(29), None),
+                    ("zeros and 40", bytes(31) + b"\x40", None),
+                    ("80, zeros and 01", b"\x80" + bytes(30) + b"\x01",
+                     None),
+                    ("80 and zeros", b"\x80" + bytes(31), 0),
+                    ("80, 80 and zeros", b"\x80\x80" + bytes(30), 1),
+                    ("zeros and 80", bytes(31) + b"\x80", 31)):
+                blocks = sheets.seal_blocks(rounds, key, nonce,
+                                            front + [last])
+                tag = sheets.tag_of_blocks(rounds, key, nonce, b"x", blocks)
+                where = "%s, %s after %d blocks" % (kind, name, before)
+                check("the end of a text: " + where,
+                      sheets.end_of_text(last) == end)
+                if end is None:
+                    check("padding is declined: " + where,
+                          declined(sheets.open_sheet, rounds, key, nonce,
+                                   b"x", tag, blocks) == (17, "sheet", 0))
+                    check("a wrong tag comes first: " + where,
+                          declined(sheets.open_sheet, rounds, key, nonce,
+                                   b"x", cases.with_xor(tag, [(3, 1)]),
+                                   blocks) == (16, "sheet", 0))
+                else:
+                    state = sheets.open_sheet(rounds, key, nonce, b"x", tag,
+                                              blocks)
+                    check("padding is taken: " + where,
+                          sheets.read(state, blocks, 0, state.length)
+                          == b"".join(front) + last[:end])
+
+
+def check_sheet_refusals():
+    key, nonce, tag = bytes(16), bytes(13), bytes(16)
+    over, block = bytes(4097), ZERO_BLOCK
+    long_text = bytes(131072)
+    for wanted, arguments in (
+            (None, (key, nonce, bytes(4096), bytes(31), 1, [])),
+            ((1, "cipher", 0),
+             (bytes(15), bytes(12), over, long_text, 0, [block])),
+            ((2, "cipher", 0), (key, bytes(14), over, long_text, 0, [block])),
+            ((7, "cipher", 0), (key, nonce, over, long_text, 0, [block])),
+            ((8, "sheet", 0), (key, nonce, b"", long_text, 0, [block])),
+            ((10, "sheet", 0), (key, nonce, b"", bytes(32), 1, [block])),
+            ((14, "sheet", 0), (key, nonce, b"", bytes(32), 1, [])),
+            ((14, "sheet", 0), (key, nonce, b"", b"", 0, []))):
+        check("seal: %s" % (wanted,),
+              declined(sheets.seal, 0, *arguments) == wanted)
+    for wanted, arguments in (
+            ((1, "cipher", 0), (bytes(15), bytes(12), over, bytes(15), [])),
+            ((2, "cipher", 0), (key, bytes(14), over, bytes(15), [])),
+            ((3, "cipher", 0), (key, nonce, over, bytes(17), [])),
+            ((7, "cipher", 0), (key, nonce, over, tag, [])),
+            ((10, "sheet", 0), (key, nonce, b"", tag, [])),
+            ((10, "sheet", 0), (key, nonce, b"", tag, [block] * 4097)),
+            ((16, "sheet", 0), (key, nonce, b"", tag, [block]))):
+        check("open: %s" % (wanted,),
+              declined(sheets.open_sheet, 0, *arguments) == wanted)
+    state, blocks = sheets.seal(0, key, nonce, b"", bytes(40), 2, [])
+    for wanted, arguments in (
+            (None, (blocks, 0, 40)), (None, (blocks, 40, 0)),
+            ((11, "sheet", 0), (blocks, 0, 41)),
+            ((11, "sheet", 0), (blocks, 41, 0)),
+            ((11, "sheet", 0), (blocks, 2 ** 64 - 1, 1)),
+            ((10, "sheet", 0), (blocks[:1], 0, 40)),
+            ((10, "sheet", 0), ([], 0, 0)),
+            ((10, "sheet", 0), (blocks + [block], 41, 1))):
+        check("read: %s" % (wanted,),
+              declined(sheets.read, state, *arguments) == wanted)
+
+
+def check_holders():
+    for size, count, most, there in (
+            (0, 0, 0, 0), (31, 1, 0, 0), (32, 0, 1, 0), (63, 2, 1, 1),
+            (64, 2, 2, 2), (131071, 4096, 4095, 4095),
+            (131072, 4096, 4096, 4096), (131104, 4097, 4096, 4096)):
+        memory = holders.Memory(size, count)
+        check("a memory holder over %d bytes, told %d" % (size, count),
+              (memory.limit(), memory.count()) == (most, there))
+        for depth in (1, 2, 3):
+            note = memory
+            for _ in range(depth):
+                note = holders.Note(note)
+            check("%d note holders over %d bytes, told %d"
+                  % (depth, size, count),
+                  (note.limit(), note.count())
+                  == (max(most - depth, 0), max(there - depth, 0)))
+
+    one, two = b"\x01" * 32, b"\x02" * 32
+    memory = holders.Memory(96, 0)
+    note = holders.Note(memory)
+    check("nothing to drop", declined(note.drop) == (13, "holder", 0))
+    note.add(one)
+    check("the first add makes a note of zeros",
+          memory.blocks == [ZERO_BLOCK, one])
+    note.put(1, two)
+    check("block 1 is the second below", memory.blocks == [ZERO_BLOCK, two])
+    for call in (note.get, lambda k: note.put(k, one)):
+        for k in (0, 2, 2 ** 64 - 1):
+            check("block %d is not there" % k,
+                  declined(call, k) == (13, "holder", k))
+    note.add(one)
+    check("the limit is one less",
+          declined(note.add, one) == (14, "holder", 0))
+    note.drop()
+    note.drop()
+    check("the note stays", declined(note.drop) == (13, "holder", 0)
+          and memory.blocks == [ZERO_BLOCK])
+    for size in (0, 32):
+        memory = holders.Memory(size, 0)
+        check("no room for a block, so no note is made",
+              declined(holders.Note(memory).add, one) == (14, "holder", 0)
+              and memory.blocks == [])
+    for holder in (holders.Memory(32, 1), holders.Note(holders.Memory(0, 0))):
+        for name, call in (("get", lambda: holder.get(9, 31)),
+                           ("put", lambda: holder.put(9, bytes(31))),
+                           ("add", lambda: holder.add(bytes(33)))):
+            check("%s: the size comes first" % name,
+                  declined(call) == (12, "holder", 0))
+
+
+def outcomes_of(line, text):
+    """The name of a case's call, or of each of its operations, with its
+    outcome: a refusal, or `taken`. A holder's refusal goes without place."""
+    words = line.split(" ")
+    if words[0] not in ("hold", "note"):
+        yield words[0], text if text.startswith("declined") else "taken"
+        return
+    operations = words[3:] if words[0] == "hold" else words[4:]
+    answered = text.split(" | ")[0].split(";")
+    for operation, one in zip(operations, answered):
+        one = one.rsplit(" ", 1)[0] if one.startswith("declined") else "taken"
+        yield words[0] + " " + operation.split(":")[0], one
+
+
 def check_cases():
     lines = list(cases.all_cases())
     check("the cases are the same each time", lines == list(cases.all_cases()))
-    check("the cases stay below 400 KB",
-          sum(len(line) + 1 for line in lines) < 400000)
-    seen = {}
+    check("the cases stay below 720 KB",
+          sum(len(line) + 1 for line in lines) < 720000)
+    seen = set()
     for line in lines:
-        text = answers.answer(line)
-        words = line.split(" ")
-        what = text if text.startswith("declined") else "taken"
-        seen[words[0], what] = seen.get((words[0], what), 0) + 1
-    wanted = {
+        seen.update(outcomes_of(line, answers.answer(line)))
+    sheet_calls = {
+        "seal": ["1 cipher", "2 cipher", "7 cipher", "8 sheet", "10 sheet",
+                 "14 sheet"],
+        "open": ["1 cipher", "2 cipher", "3 cipher", "7 cipher", "10 sheet",
+                 "16 sheet", "17 sheet"],
+        "reopen": ["1 cipher", "2 cipher", "7 cipher", "8 sheet",
+                   "11 sheet"],
+        "spoilt": ["1 cipher", "2 cipher", "7 cipher", "8 sheet", "10 sheet",
+                   "16 sheet", "17 sheet"],
+    }
+    cipher_calls = {
         "double": [], "step": [], "turn": [], "mask": [],
         "forward": [], "backward": [],
         "tem": [1, 2, 9, 12], "untem": [1, 2, 9, 12],
         "label": [1, 7], "mac": [1, 7], "check": [1, 3, 7, 16],
     }
-    pairs = set()
-    for name, numbers in wanted.items():
-        pairs.add((name, "taken"))
-        for number in numbers:
-            pairs.add((name, "declined %d cipher 0" % number))
-    check("the cases meet every answer and every refusal", set(seen) == pairs)
+    operations = {"get": [13], "put": [13], "add": [14], "drop": [13],
+                  "count": [], "limit": []}
+    wanted = set()
+    for name, numbers in cipher_calls.items():
+        wanted.add((name, "taken"))
+        wanted.update((name, "declined %d cipher 0" % n) for n in numbers)
+    for name, refusals in sheet_calls.items():
+        wanted.add((name, "taken"))
+        wanted.update((name, "declined %s 0" % one) for one in refusals)
+    for holder in ("hold ", "note "):
+        for name, numbers in operations.items():
+            wanted.add((holder + name, "taken"))
+            wanted.update((holder + name, "declined %d holder" % n)
+                          for n in numbers)
+        for name in ("getshort", "putshort", "addlong"):
+            wanted.add((holder + name, "declined 12 holder"))
+    check("the cases meet every answer and every refusal", seen == wanted)
 
 
 def random_bytes(source, length):
@@ -327,6 +595,12 @@ def main():
     check_tem(source)
     check_sums(source)
     check_refusals()
+    check_fast(source)
+    check_worked_sheet()
+    check_sheets(source)
+    check_padding(source)
+    check_sheet_refusals()
+    check_holders()
     check_cases()
     print("%d passed, %d failed" % (passed, failed))
     return 1 if failed else 0

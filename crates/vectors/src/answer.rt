@@ -12,6 +12,12 @@ use crate::case::byte_of;
 use crate::case::bytes_of;
 use crate::case::number_of;
 use crate::case::usage_of;
+use crate::holders::hold_case;
+use crate::holders::note_case;
+use crate::sheets::open_case;
+use crate::sheets::reopen_case;
+use crate::sheets::seal_case;
+use crate::sheets::spoilt_case;
 use modes::cipher::tem;
 use modes::cipher::tem_reverse;
 use modes::mask::Mask;
@@ -28,6 +34,8 @@ use permutation::minalpher::OneRound;
 use permutation::minalpher::SeventeenCount;
 use permutation::minalpher::ZeroCount;
 use permutation::minalpher::ZeroRounds;
+use permutation::words::RowWords;
+use permutation::words::WordsPermutation;
 use std::alloc::AllocError;
 use std::alloc::Global;
 use std::fmt;
@@ -37,7 +45,7 @@ use text::words::ShownDisplay;
 
 #[derive(Drop)]
 pub enum Answer {
-    // Hex digits.
+    // Hex digits, or what a case of sheets or of holders comes to.
     Value(String),
     Yes,
     Declined(Refusal),
@@ -76,7 +84,12 @@ fn value(heap: Global, line: &str) -> Result<Answer, Fault> {
         ["step", block] => shown(heap, &mask_of(heap, block)?.stepped().bytes),
         ["turn", block] => shown(heap, &mask_of(heap, block)?.turned().bytes),
         ["mask", i, j, block] => mask(heap, i, j, block),
+        ["hold", size, count, rest @ ..] => Ok(Answer::Value(hold_case(heap, size, count, rest)?)),
+        ["note", size, count, depth, rest @ ..] => {
+            Ok(Answer::Value(note_case(heap, size, count, depth, rest)?))
+        }
         [name, "matrices", rest @ ..] => value_by::<Minalpher>(heap, name, rest),
+        [name, "rows", rest @ ..] => value_by::<RowWords>(heap, name, rest),
         [name, "one", rest @ ..] => value_by::<OneRound>(heap, name, rest),
         [name, "zero", rest @ ..] => value_by::<ZeroRounds>(heap, name, rest),
         _ => Err(Fault::Malformed),
@@ -110,6 +123,10 @@ fn value_by<K: Permutation>(heap: Global, name: &str, words: &[&str]) -> Result<
         ("label", [key, label]) => label_value::<K>(heap, key, label),
         ("mac", [key, plate]) => mac_value::<K>(heap, key, plate),
         ("check", [key, plate, tag]) => check_value::<K>(heap, key, plate, tag),
+        ("seal", _) => Ok(Answer::Value(seal_case::<K>(heap, words)?)),
+        ("open", _) => Ok(Answer::Value(open_case::<K>(heap, words)?)),
+        ("reopen", _) => Ok(Answer::Value(reopen_case::<K>(heap, words)?)),
+        ("spoilt", _) => Ok(Answer::Value(spoilt_case::<K>(heap, words)?)),
         _ => Err(Fault::Malformed),
     }
 }

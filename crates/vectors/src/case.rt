@@ -1,11 +1,12 @@
 // The words of a case.
 ghost use mathlib.Core.Path.{_≡_};
+ghost use Prim.Native.Nat.{_<_, _≤_};
 ghost use Rattle.std.specs.Of.Vec.{vec-items};
 ghost use Rattle.std.specs.Results.{Cases};
 ghost use Rattle.std.specs.Vec.{made};
 ghost use Rattle.text.specs.Hex.{Spells};
 ghost use Rattle.vectors.specs.declared.case.Fault.the-variants.{Malformed, Declined, Memory};
-ghost use Rattle.vectors.specs.Lines.{Writes, usage-name};
+ghost use Rattle.vectors.specs.Lines.{Writes, ruled-byte as byte-by-rule, Ruled, usage-name};
 use modes::cipher::Usage;
 use modes::refusal::Refusal;
 use std::alloc::AllocError;
@@ -66,6 +67,43 @@ pub fn bytes_of(heap: Global, word: &str) -> Result<Vec<u8>, Fault>
         return Err(Fault::Malformed);
     }
     Ok(parse_hex(heap, word.as_bytes())?)
+}
+
+// The longest that a rule makes.
+const MAX_RULED: usize = 1000000;
+
+// A text or a label: a long one may be `~N:S`, which tells N bytes by a rule from S on.
+pub fn long_bytes_of(heap: Global, word: &str) -> Result<Vec<u8>, Fault> {
+    let Some(rule) = word.strip_prefix("~") else {
+        return bytes_of(heap, word);
+    };
+    let Some((n, start)) = rule.split_once(":") else {
+        return Err(Fault::Malformed);
+    };
+    let n = number_of(n)?;
+    let start = number_of(start)?;
+    if n > MAX_RULED || start > 255 {
+        return Err(Fault::Malformed);
+    }
+    ruled_bytes(heap, n, start)
+}
+
+fn ruled_byte(start: usize, i: usize) -> u8
+    requires { ⌜ start < 256 ⌝ ∗ ⌜ i < 1000000 ⌝ }
+    ensures { λ r. ⌜ r ≡ byte-by-rule start i ⌝ }
+{
+    ((start + 31 * i + i / 32) % 256) as u8
+}
+
+fn ruled_bytes(heap: Global, n: usize, start: usize) -> Result<Vec<u8>, Fault>
+    requires { ⌜ n ≤ 1000000 ⌝ ∗ ⌜ start < 256 ⌝ }
+    ensures { λ r. ⌜ made r (λ v. Ruled n start (vec-items v)) ⌝ }
+{
+    let mut bytes = Vec::new(heap);
+    for i in 0..n {
+        bytes.push(ruled_byte(start, i))?;
+    }
+    Ok(bytes)
 }
 
 fn has_upper(word: &str) -> bool {

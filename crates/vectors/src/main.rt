@@ -1,6 +1,8 @@
 // Answers cases, one a line, so that another program's answers can be compared with these.
 mod answer;
 mod case;
+mod holders;
+mod sheets;
 
 use answer::AnswerDisplay;
 use std::io;
