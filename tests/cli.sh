@@ -5,7 +5,6 @@
 set -u
 cd "$(dirname "$0")/.." || exit 2
 program=$PWD/target/bin/vestmortar
-data=$PWD/crates/vestmortar/data
 work=$(mktemp -d)
 trap 'rm -rf "$work"' EXIT
 
@@ -112,9 +111,22 @@ script_from_standard_input() {
     [[ $status -eq 0 && -z $err && $out == *"$(second "$work/plate")"* && $out == *"declined: 3 cipher 0: the tag is not 16 bytes"* ]]
 }
 
+sheet_outside_a_script() {
+    run sheet show
+    [[ $status -eq 1 && -z $out && $err == "vestmortar: error: "* && $(wc -l <"$work/err") -eq 1 ]]
+}
+
+sheet_in_a_script() {
+    printf 'sheet seal --key %s --nonce 000102030405060708090a0b0c --label day %s\nsheet open --key %s --label night\nsheet read --key %s --label day --at 0 --bytes 6\n' \
+        "$work/key" "$work/plate" "$work/key" "$work/key" >"$work/script"
+    run run <"$work/script"
+    [[ $status -eq 0 && -z $err && $out == *"sealed: 6 bytes in 1 blocks, tag "* && $out == *"declined: 16 sheet 0: the tag disagrees"*
+        && $out == *"read: rack 7"* && $out == *"3 commands: 2 taken, 1 declined, 0 wrong" ]]
+}
+
 tests=(plate_from_a_file plate_from_standard_input longest_plate empty_plate check_says_yes check_finds_another_tag
     check_wants_sixteen_bytes too_long_plate short_key key_that_is_no_hex missing_file unknown_command missing_key_option
-    help_is_printed script_from_standard_input)
+    help_is_printed script_from_standard_input sheet_outside_a_script sheet_in_a_script)
 
 case ${1:-} in
 --list) printf '%s\n' "${tests[@]}" ;;

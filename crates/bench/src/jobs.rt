@@ -84,7 +84,7 @@ pub struct Plate {
 }
 
 impl Plate {
-    pub fn new(heap: Global, n: u32) -> Result<Plate, AllocError> {
+    pub(crate) fn new(heap: Global, n: u32) -> Result<Plate, AllocError> {
         Ok(Plate {
             n,
             plate: zeros(heap, n)?,
@@ -140,7 +140,7 @@ pub struct Sealing {
 }
 
 impl Sealing {
-    pub fn new(heap: Global, n: u32) -> Result<Sealing, AllocError> {
+    pub(crate) fn new(heap: Global, n: u32) -> Result<Sealing, AllocError> {
         Ok(Sealing {
             n,
             text: zeros(heap, n)?,
@@ -180,7 +180,7 @@ pub struct Opening {
 }
 
 impl Opening {
-    pub fn new<K: Permutation>(heap: Global, n: u32) -> Result<Opening, Failure> {
+    pub(crate) fn new<K: Permutation>(heap: Global, n: u32) -> Result<Opening, Failure> {
         let text = zeros(heap, n)?;
         let mut blocks = room_for(heap, n)?;
         let tag = sealed_into::<K>(text.as_slice(), blocks.as_mut_slice())?.tag();

@@ -68,7 +68,7 @@ pub impl fmt::Display for Answer as AnswerDisplay {
     }
 }
 
-pub fn answer_line(heap: Global, line: &str) -> Result<Answer, AllocError> {
+pub(crate) fn answer_line(heap: Global, line: &str) -> Result<Answer, AllocError> {
     match value(heap, line) {
         Ok(answer) => Ok(answer),
         Err(Fault::Malformed) => Ok(Answer::Malformed),

@@ -57,7 +57,7 @@ pub impl<T: Drop> From<Refused<T>> for Fault as FaultFromRefused {
 }
 
 // Byte strings are in lower case, and the empty one is a dash.
-pub fn bytes_of(heap: Global, word: &str) -> Result<Vec<u8>, Fault>
+pub(crate) fn bytes_of(heap: Global, word: &str) -> Result<Vec<u8>, Fault>
     ensures { λ r. ⌜ made r (λ v. Writes (now (word .entry)) (vec-items v)) ⌝ }
 {
     if word == "-" {
@@ -73,7 +73,7 @@ pub fn bytes_of(heap: Global, word: &str) -> Result<Vec<u8>, Fault>
 const MAX_RULED: usize = 1000000;
 
 // A text or a label: a long one may be `~N:S`, which tells N bytes by a rule from S on.
-pub fn long_bytes_of(heap: Global, word: &str) -> Result<Vec<u8>, Fault> {
+pub(crate) fn long_bytes_of(heap: Global, word: &str) -> Result<Vec<u8>, Fault> {
     let Some(rule) = word.strip_prefix("~") else {
         return bytes_of(heap, word);
     };
@@ -115,14 +115,14 @@ fn has_upper(word: &str) -> bool {
     false
 }
 
-pub fn byte_of(heap: Global, word: &str) -> Result<u8, Fault> {
+pub(crate) fn byte_of(heap: Global, word: &str) -> Result<u8, Fault> {
     match bytes_of(heap, word)?.as_slice() {
         [byte] => Ok(*byte),
         _ => Err(Fault::Malformed),
     }
 }
 
-pub fn block_of(heap: Global, word: &str) -> Result<[u8; 32], Fault>
+pub(crate) fn block_of(heap: Global, word: &str) -> Result<[u8; 32], Fault>
     ensures { λ r. ⌜ made r (λ b. Spells (now (word .entry)) b) ⌝ }
 {
     let bytes = bytes_of(heap, word)?;
@@ -134,7 +134,7 @@ pub fn block_of(heap: Global, word: &str) -> Result<[u8; 32], Fault>
     Ok(block)
 }
 
-pub fn number_of(word: &str) -> Result<usize, Fault> {
+pub(crate) fn number_of(word: &str) -> Result<usize, Fault> {
     // A sign is no digit, though `parse` takes one.
     if word.starts_with("+") {
         return Err(Fault::Malformed);
@@ -145,7 +145,7 @@ pub fn number_of(word: &str) -> Result<usize, Fault> {
     }
 }
 
-pub fn usage_of(word: &str) -> Result<Usage, Fault>
+pub(crate) fn usage_of(word: &str) -> Result<Usage, Fault>
     ensures { λ r. ⌜ Cases r (λ u. now (word .entry) ≡ usage-name u) (λ e. e ≡ Malformed) ⌝ }
 {
     match word {

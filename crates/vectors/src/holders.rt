@@ -34,7 +34,7 @@ fn room_of(heap: Global, size: &str) -> Result<Vec<u8>, Fault> {
     Ok(vec![in heap; 0u8; size]?)
 }
 
-pub fn hold_case(
+pub(crate) fn hold_case(
     heap: Global,
     size: &str,
     count: &str,
@@ -45,7 +45,7 @@ pub fn hold_case(
     outcomes(heap, &mut memory, operations)
 }
 
-pub fn note_case(
+pub(crate) fn note_case(
     heap: Global,
     size: &str,
     count: &str,

@@ -79,7 +79,7 @@ impl Under {
 }
 
 // The word of a byte string.
-pub fn word_of(heap: Global, bytes: &[u8]) -> Result<String, AllocError>
+pub(crate) fn word_of(heap: Global, bytes: &[u8]) -> Result<String, AllocError>
     ensures { λ r. ⌜ made r (λ s. string-bytes s ≡ word-for (now (bytes .entry))) ⌝ }
 {
     match bytes {
@@ -89,7 +89,7 @@ pub fn word_of(heap: Global, bytes: &[u8]) -> Result<String, AllocError>
 }
 
 // Block k of a holder, in hex digits.
-pub fn block_word<R: ReadBlocks>(heap: Global, h: &R, k: usize) -> Result<String, Fault> {
+pub(crate) fn block_word<R: ReadBlocks>(heap: Global, h: &R, k: usize) -> Result<String, Fault> {
     let mut block = [0u8; 32];
     h.get(k, &mut block)?;
     Ok(to_hex(heap, &block)?)
@@ -111,7 +111,7 @@ fn room_for(heap: Global, text: &[u8]) -> Result<Vec<u8>, AllocError> {
     vec![in heap; 0u8; 32 * count]
 }
 
-pub fn seal_case<K: Permutation>(heap: Global, words: &[&str]) -> Result<String, Fault> {
+pub(crate) fn seal_case<K: Permutation>(heap: Global, words: &[&str]) -> Result<String, Fault> {
     let [key, nonce, label, limit, count, text] = words else {
         return Err(Fault::Malformed);
     };
@@ -132,7 +132,7 @@ pub fn seal_case<K: Permutation>(heap: Global, words: &[&str]) -> Result<String,
     Ok(format!(heap, "{tag} {count} {first} {last}")?)
 }
 
-pub fn open_case<K: Permutation>(heap: Global, words: &[&str]) -> Result<String, Fault> {
+pub(crate) fn open_case<K: Permutation>(heap: Global, words: &[&str]) -> Result<String, Fault> {
     let [key, nonce, label, tag, blocks] = words else {
         return Err(Fault::Malformed);
     };
@@ -151,7 +151,7 @@ pub fn open_case<K: Permutation>(heap: Global, words: &[&str]) -> Result<String,
     Ok(format!(heap, "{length} {word}")?)
 }
 
-pub fn reopen_case<K: Permutation>(heap: Global, words: &[&str]) -> Result<String, Fault> {
+pub(crate) fn reopen_case<K: Permutation>(heap: Global, words: &[&str]) -> Result<String, Fault> {
     let [key, nonce, label, text, at, n] = words else {
         return Err(Fault::Malformed);
     };
@@ -173,7 +173,7 @@ pub fn reopen_case<K: Permutation>(heap: Global, words: &[&str]) -> Result<Strin
     Ok(format!(heap, "{tag} {length} {shown}")?)
 }
 
-pub fn spoilt_case<K: Permutation>(heap: Global, words: &[&str]) -> Result<String, Fault> {
+pub(crate) fn spoilt_case<K: Permutation>(heap: Global, words: &[&str]) -> Result<String, Fault> {
     let [key, nonce, label, text, what] = words else {
         return Err(Fault::Malformed);
     };

@@ -1,3 +1,5 @@
 pub mod Commands
 pub mod Counts
+pub mod Options
 pub mod Outcomes
+pub mod Sheets

@@ -7,6 +7,7 @@ use lib.Chars.{codes}
 use lib.ListN.{length, getD, take, drop}
 use Rattle.std.specs.Of.String.{string-bytes}
 use Rattle.std.specs.Text.{asciiWhite}
+use Rattle.std.specs.Written.{decimal}
 use Rattle.std.specs.declared.option.Option.{Option}
 use Rattle.std.specs.declared.option.Option.the-variants.{Some, None}
 use Rattle.std.specs.declared.result.Result.{Result}
@@ -17,7 +18,7 @@ use Rattle.text.specs.Words.{reason-text, refusal-text}
 use Rattle.vestmortar.specs.declared.failure.Failure.{Failure}
 use Rattle.vestmortar.specs.declared.failure.Failure.the-variants.{Declined, Usage, Unreadable, KeyNotHex, KeyOdd, Output, Memory}
 use Rattle.vestmortar.specs.declared.work.Outcome.{Outcome}
-use Rattle.vestmortar.specs.declared.work.Outcome.the-variants.{Tag, Agreed, Help}
+use Rattle.vestmortar.specs.declared.work.Outcome.the-variants.{Tag, Agreed, Sealed, Kept, Opened, Read, Damaged, Help}
 
 -- the digits stand in the text with nothing but white space around them
 abbrev pub Amid : List ℕ → List ℕ → Type 0
@@ -34,6 +35,11 @@ Holds-key text key = (digits : List ℕ) × Amid text digits × Spells digits ke
 abbrev pub Signs : Result (List ℕ) Refusal → Result Outcome Failure → Type 0
 Signs a (Ok (Tag digits)) = (tag : List ℕ) × (a ≡ Ok tag) × (string-bytes digits ≡ hex-of tag)
 Signs a (Ok Agreed) = ⊥
+Signs a (Ok (Sealed n count digits)) = ⊥
+Signs a (Ok (Kept count nonce digits)) = ⊥
+Signs a (Ok (Opened n)) = ⊥
+Signs a (Ok (Read text)) = ⊥
+Signs a (Ok (Damaged k)) = ⊥
 Signs a (Ok Help) = ⊥
 Signs a (Err (Declined refusal)) = a ≡ Err refusal
 Signs a (Err (Usage misuse)) = ⊥
@@ -52,6 +58,13 @@ checked (Err refusal) = Err (Declined refusal)
 abbrev pub outcome-text : Outcome → Option (List ℕ)
 outcome-text (Tag digits) = Some (string-bytes digits)
 outcome-text Agreed = Some (codes "yes: the plate carries this tag")
+outcome-text (Sealed n count tag) =
+    Some (codes "sealed: " ++ (decimal n ++ (codes " bytes in " ++ (decimal count ++ (codes " blocks, tag " ++ string-bytes tag)))))
+outcome-text (Kept count nonce tag) =
+    Some (codes "sheet: " ++ (decimal count ++ (codes " blocks, nonce " ++ (string-bytes nonce ++ (codes ", tag " ++ string-bytes tag)))))
+outcome-text (Opened n) = Some (codes "opened: " ++ (decimal n ++ codes " bytes"))
+outcome-text (Read text) = Some (codes "read: " ++ string-bytes text)
+outcome-text (Damaged k) = Some (codes "damaged: block " ++ decimal k)
 outcome-text Help = None
 
 -- what is printed of a refusal; of errors nothing is said here

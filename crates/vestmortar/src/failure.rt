@@ -25,6 +25,8 @@ pub enum Failure {
 pub enum Misuse {
     NoCommand,
     UnknownCommand(String),
+    NoSheetCommand,
+    UnknownSheetCommand(String),
     UnknownOption(String),
     ExtraWord(String),
     NoValue(Flag),
@@ -33,7 +35,14 @@ pub enum Misuse {
     NotTaken(Flag),
     TagNotHex,
     TagOdd,
+    NonceNotHex,
+    NonceOdd,
+    NotNumber(Flag),
     NoPlateFile,
+    NoTextFile,
+    // A script's sheet where nothing was sealed yet, or where there is no script.
+    NoSheet,
+    OnlyInScripts,
     NestedRun,
     NotText,
 }
@@ -42,6 +51,11 @@ pub enum Misuse {
 pub enum Flag {
     Key,
     Tag,
+    Nonce,
+    Label,
+    At,
+    Bytes,
+    Block,
 }
 
 pub impl From<Refusal> for Failure as FailureFromRefusal {
@@ -83,7 +97,7 @@ pub impl<T: Drop> From<Refused<T>> for Failure as FailureFromRefused {
 }
 
 // What is wrong with a key file's digits.
-pub fn key_failure(name: String, error: HexError) -> Failure {
+pub(crate) fn key_failure(name: String, error: HexError) -> Failure {
     match error {
         HexError::OddLength => Failure::KeyOdd(name),
         HexError::NotDigit(_) => Failure::KeyNotHex(name),
@@ -92,10 +106,19 @@ pub fn key_failure(name: String, error: HexError) -> Failure {
 }
 
 // What is wrong with a tag's digits.
-pub fn tag_failure(error: HexError) -> Failure {
+pub(crate) fn tag_failure(error: HexError) -> Failure {
     match error {
         HexError::OddLength => Failure::Usage(Misuse::TagOdd),
         HexError::NotDigit(_) => Failure::Usage(Misuse::TagNotHex),
+        HexError::Memory => Failure::Memory,
+    }
+}
+
+// What is wrong with a nonce's digits.
+pub(crate) fn nonce_failure(error: HexError) -> Failure {
+    match error {
+        HexError::OddLength => Failure::Usage(Misuse::NonceOdd),
+        HexError::NotDigit(_) => Failure::Usage(Misuse::NonceNotHex),
         HexError::Memory => Failure::Memory,
     }
 }

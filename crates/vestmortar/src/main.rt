@@ -1,7 +1,11 @@
-// Signs and checks plates from the command line.
+// Signs and checks plates from the command line, and works scripts with a sheet in memory.
 mod args;
+mod calls;
 mod failure;
+mod memory;
+mod options;
 mod script;
+mod sheet_args;
 mod show;
 mod work;
 

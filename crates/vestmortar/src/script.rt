@@ -10,6 +10,8 @@ use crate::failure::FailureFromMisuse;
 use crate::failure::FailureFromOutput;
 use crate::failure::FailureFromRefused;
 use crate::failure::Misuse;
+use crate::memory::Kept;
+use crate::memory::perform_sheet;
 use crate::show::FailureDisplay;
 use crate::show::OutcomeDisplay;
 use crate::work::Outcome;
@@ -72,17 +74,26 @@ fn check_source(command: &Command) -> Result<(), Misuse>
     }
 }
 
-fn step(rt: &LibcRuntime, line: &str) -> Result<Outcome, Failure> {
+fn step(rt: &LibcRuntime, line: &str, memory: &mut Option<Kept>) -> Result<Outcome, Failure> {
     let heap = rt.alloc();
     let words = words(heap, line)?;
-    let command = parse(heap, words.as_slice())?;
-    check_source(&command)?;
-    perform(rt, command)
+    match parse(heap, words.as_slice())? {
+        Command::Sheet(command) => perform_sheet(rt, memory, command),
+        command => {
+            check_source(&command)?;
+            perform(rt, command)
+        }
+    }
 }
 
-fn work_line(rt: &LibcRuntime, line: &str, tally: &mut Tally) -> Result<(), Failure> {
+fn work_line(
+    rt: &LibcRuntime,
+    line: &str,
+    memory: &mut Option<Kept>,
+    tally: &mut Tally,
+) -> Result<(), Failure> {
     println!(rt, "> {line}")?;
-    let result = step(rt, line);
+    let result = step(rt, line, memory);
     tally.add(&result);
     match &result {
         Ok(outcome) => println!(rt, "{outcome}")?,
@@ -98,8 +109,9 @@ fn read_text(rt: &LibcRuntime, script: Option<String>) -> Result<String, Failure
     }
 }
 
-pub fn run(rt: &LibcRuntime, script: Option<String>) -> Result<(), Failure> {
+pub(crate) fn run(rt: &LibcRuntime, script: Option<String>) -> Result<(), Failure> {
     let text = read_text(rt, script)?;
+    let mut memory = None;
     let mut tally = Tally {
         taken: 0,
         declined: 0,
@@ -110,7 +122,7 @@ pub fn run(rt: &LibcRuntime, script: Option<String>) -> Result<(), Failure> {
         if command.is_empty() || command.starts_with("#") {
             println!(rt, "{line}")?;
         } else {
-            work_line(rt, command, &mut tally)?;
+            work_line(rt, command, &mut memory, &mut tally)?;
         }
     }
     println!(rt, "{tally}")?;

@@ -24,18 +24,36 @@ use text::hex::parse_hex;
 use text::hex::to_hex;
 
 // The permutation that all commands use.
-type Kind = RowWords;
+pub type Kind = RowWords;
 
 #[derive(Drop)]
 pub enum Outcome {
     // The tag's digits.
     Tag(String),
     Agreed,
+    // What was sealed: how many bytes, in how many blocks, and the tag's digits.
+    Sealed {
+        length: usize,
+        count: usize,
+        tag: String,
+    },
+    // The sheet in memory: how many blocks, and the digits of its nonce and tag.
+    Kept {
+        count: usize,
+        nonce: String,
+        tag: String,
+    },
+    // The length of the text.
+    Opened(usize),
+    // What was read, as it is printed.
+    Read(String),
+    // The block's number.
+    Damaged(usize),
     Help,
 }
 
 // The bytes of a file, or of standard input where none is named.
-pub fn read_source(rt: &LibcRuntime, name: Option<String>) -> Result<Vec<u8>, Failure> {
+pub(crate) fn read_source(rt: &LibcRuntime, name: Option<String>) -> Result<Vec<u8>, Failure> {
     let Some(name) = name else {
         return read_input(rt);
     };
@@ -63,7 +81,7 @@ fn key_in(heap: Global, name: String, text: &[u8]) -> Result<Vec<u8>, Failure>
     }
 }
 
-fn read_key(rt: &LibcRuntime, name: String) -> Result<Vec<u8>, Failure> {
+pub(crate) fn read_key(rt: &LibcRuntime, name: String) -> Result<Vec<u8>, Failure> {
     match fs::read(rt, name.as_str()) {
         Ok(text) => key_in(rt.alloc(), name, text.as_slice()),
         Err(error) => Err(Failure::Unreadable(Some(name), error)),
@@ -86,8 +104,8 @@ fn verify(key: &[u8], plate: &[u8], tag: &[u8]) -> Result<Outcome, Failure>
     Ok(Outcome::Agreed)
 }
 
-// Does any command but a run, which is a script's and cannot stand in one.
-pub fn perform(rt: &LibcRuntime, command: Command) -> Result<Outcome, Failure> {
+// Does any command but a run, which cannot stand in a script, and those that stand only there.
+pub(crate) fn perform(rt: &LibcRuntime, command: Command) -> Result<Outcome, Failure> {
     match command {
         Command::Plate { key, plate } => {
             let key = read_key(rt, key)?;
@@ -100,6 +118,7 @@ pub fn perform(rt: &LibcRuntime, command: Command) -> Result<Outcome, Failure> {
             verify(key.as_slice(), plate.as_slice(), tag.as_slice())
         }
         Command::Run { .. } => Err(Misuse::NestedRun.into()),
+        Command::Sheet(_) => Err(Misuse::OnlyInScripts.into()),
         Command::Help => Ok(Outcome::Help),
     }
 }

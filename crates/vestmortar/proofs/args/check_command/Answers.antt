@@ -6,4 +6,5 @@ returns-in-Ok c = (
   search needs,
   (c .in-Continue-digits .digits, search needs, rw (c .as-bytes .ensures .value) at (c .in-Ok .ensures tt)),
   search needs,
+  search needs,
 )
