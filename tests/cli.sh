@@ -111,6 +111,22 @@ script_from_standard_input() {
     [[ $status -eq 0 && -z $err && $out == *"$(second "$work/plate")"* && $out == *"declined: 3 cipher 0: the tag is not 16 bytes"* ]]
 }
 
+kinds_agree() {
+    run --kind matrices plate --key "$work/key" "$work/longest" && gave 0 "$(second "$work/longest")" "" || return 1
+    run --kind rows plate --key "$work/key" "$work/longest" && gave 0 "$(second "$work/longest")" ""
+}
+
+kinds_agree_in_a_script() {
+    local rows
+    rows=$(cd crates/vestmortar/data && "$program" run depot.script)
+    [[ $rows == "$(cd crates/vestmortar/data && "$program" --kind matrices run depot.script)" && $rows == "$(cat crates/vestmortar/stdout)" ]]
+}
+
+unknown_kind() {
+    run --kind fast plate --key "$work/key" "$work/plate"
+    gave 1 "" "vestmortar: error: there is no kind fast; there are rows and matrices"
+}
+
 sheet_outside_a_script() {
     run sheet show
     [[ $status -eq 1 && -z $out && $err == "vestmortar: error: "* && $(wc -l <"$work/err") -eq 1 ]]
@@ -126,7 +142,8 @@ sheet_in_a_script() {
 
 tests=(plate_from_a_file plate_from_standard_input longest_plate empty_plate check_says_yes check_finds_another_tag
     check_wants_sixteen_bytes too_long_plate short_key key_that_is_no_hex missing_file unknown_command missing_key_option
-    help_is_printed script_from_standard_input sheet_outside_a_script sheet_in_a_script)
+    help_is_printed script_from_standard_input kinds_agree kinds_agree_in_a_script
+    unknown_kind sheet_outside_a_script sheet_in_a_script)
 
 case ${1:-} in
 --list) printf '%s\n' "${tests[@]}" ;;

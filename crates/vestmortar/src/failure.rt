@@ -44,6 +44,8 @@ pub enum Misuse {
     NoSheet,
     OnlyInScripts,
     NestedRun,
+    NoKind,
+    UnknownKind(String),
     NotText,
 }
 

@@ -20,6 +20,7 @@ use crate::sheet_args::SheetCommand;
 use crate::work::Outcome;
 use crate::work::read_key;
 use crate::work::read_source;
+use permutation::Permutation;
 use std::alloc::AllocError;
 use std::alloc::Global;
 use std::str::from_utf8;
@@ -80,7 +81,7 @@ fn readable(heap: Global, bytes: &[u8]) -> Result<String, AllocError> {
     format!(heap, "hex {digits}")
 }
 
-fn seal(
+fn seal<K: Permutation>(
     rt: &LibcRuntime,
     memory: &mut Option<Kept>,
     key: String,
@@ -92,7 +93,7 @@ fn seal(
     let key = read_key(rt, key)?;
     let text = read_source(rt, Some(file))?;
     let mut blocks = room_for(heap, text.as_slice())?;
-    let tag = seal_bytes(
+    let tag = seal_bytes::<K>(
         key.as_slice(),
         nonce.as_slice(),
         label_bytes(label.as_str()),
@@ -117,7 +118,7 @@ fn show(heap: Global, memory: &Option<Kept>) -> Result<Outcome, Failure> {
     })
 }
 
-fn open_kept(
+fn open_kept<K: Permutation>(
     rt: &LibcRuntime,
     memory: &Option<Kept>,
     key: String,
@@ -126,17 +127,17 @@ fn open_kept(
 ) -> Result<Outcome, Failure> {
     let kept = kept_sheet(memory)?;
     let key = read_key(rt, key)?;
-    let sheet = open_bytes(
+    let sheet = open_bytes::<K>(
         key.as_slice(),
         kept.nonce.as_slice(),
         label_bytes(label.as_str()),
         given_or(&tag, &kept.tag),
         kept.blocks.as_slice(),
     )?;
-    Ok(Outcome::Opened(length_of(&sheet)))
+    Ok(Outcome::Opened(length_of::<K>(&sheet)))
 }
 
-fn read_kept(
+fn read_kept<K: Permutation>(
     rt: &LibcRuntime,
     memory: &Option<Kept>,
     key: String,
@@ -148,14 +149,14 @@ fn read_kept(
     let kept = kept_sheet(memory)?;
     let key = read_key(rt, key)?;
     let blocks = kept.blocks.as_slice();
-    let sheet = open_bytes(
+    let sheet = open_bytes::<K>(
         key.as_slice(),
         kept.nonce.as_slice(),
         label_bytes(label.as_str()),
         &kept.tag,
         blocks,
     )?;
-    let bytes = read_part(heap, &sheet, blocks, at, amount)?;
+    let bytes = read_part::<K>(heap, &sheet, blocks, at, amount)?;
     Ok(Outcome::Read(readable(heap, bytes.as_slice())?))
 }
 
@@ -168,7 +169,7 @@ fn damage(memory: &mut Option<Kept>, block: usize) -> Result<Outcome, Failure> {
 }
 
 // Does a command with the sheet of a script, which a command that fails leaves as it was.
-pub(crate) fn perform_sheet(
+pub(crate) fn perform_sheet<K: Permutation>(
     rt: &LibcRuntime,
     memory: &mut Option<Kept>,
     command: SheetCommand,
@@ -179,15 +180,15 @@ pub(crate) fn perform_sheet(
             nonce,
             label,
             file,
-        } => seal(rt, memory, key, nonce, label, file),
+        } => seal::<K>(rt, memory, key, nonce, label, file),
         SheetCommand::Show => show(rt.alloc(), memory),
-        SheetCommand::Open { key, label, tag } => open_kept(rt, memory, key, label, tag),
+        SheetCommand::Open { key, label, tag } => open_kept::<K>(rt, memory, key, label, tag),
         SheetCommand::Read {
             key,
             label,
             at,
             amount,
-        } => read_kept(rt, memory, key, label, at, amount),
+        } => read_kept::<K>(rt, memory, key, label, at, amount),
         SheetCommand::Damage { block } => damage(memory, block),
     }
 }

@@ -17,6 +17,7 @@ use crate::show::OutcomeDisplay;
 use crate::work::Outcome;
 use crate::work::perform;
 use crate::work::read_source;
+use permutation::Permutation;
 use std::alloc::Global;
 use std::fmt;
 
@@ -74,26 +75,30 @@ fn check_source(command: &Command) -> Result<(), Misuse>
     }
 }
 
-fn step(rt: &LibcRuntime, line: &str, memory: &mut Option<Kept>) -> Result<Outcome, Failure> {
+fn step<K: Permutation>(
+    rt: &LibcRuntime,
+    line: &str,
+    memory: &mut Option<Kept>,
+) -> Result<Outcome, Failure> {
     let heap = rt.alloc();
     let words = words(heap, line)?;
     match parse(heap, words.as_slice())? {
-        Command::Sheet(command) => perform_sheet(rt, memory, command),
+        Command::Sheet(command) => perform_sheet::<K>(rt, memory, command),
         command => {
             check_source(&command)?;
-            perform(rt, command)
+            perform::<K>(rt, command)
         }
     }
 }
 
-fn work_line(
+fn work_line<K: Permutation>(
     rt: &LibcRuntime,
     line: &str,
     memory: &mut Option<Kept>,
     tally: &mut Tally,
 ) -> Result<(), Failure> {
     println!(rt, "> {line}")?;
-    let result = step(rt, line, memory);
+    let result = step::<K>(rt, line, memory);
     tally.add(&result);
     match &result {
         Ok(outcome) => println!(rt, "{outcome}")?,
@@ -109,7 +114,7 @@ fn read_text(rt: &LibcRuntime, script: Option<String>) -> Result<String, Failure
     }
 }
 
-pub(crate) fn run(rt: &LibcRuntime, script: Option<String>) -> Result<(), Failure> {
+pub(crate) fn run<K: Permutation>(rt: &LibcRuntime, script: Option<String>) -> Result<(), Failure> {
     let text = read_text(rt, script)?;
     let mut memory = None;
     let mut tally = Tally {
@@ -122,7 +127,7 @@ pub(crate) fn run(rt: &LibcRuntime, script: Option<String>) -> Result<(), Failur
         if command.is_empty() || command.starts_with("#") {
             println!(rt, "{line}")?;
         } else {
-            work_line(rt, command, &mut memory, &mut tally)?;
+            work_line::<K>(rt, command, &mut memory, &mut tally)?;
         }
     }
     println!(rt, "{tally}")?;

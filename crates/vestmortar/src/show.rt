@@ -22,6 +22,9 @@ It seals sheets of text with a key, and opens them again.
   vestmortar --help
       prints this text
 
+Before the command, --kind rows or --kind matrices chooses how the permutation
+is kept. The answers are the same, and rows, which need not be named, is faster.
+
 A script also has one sheet in memory, which is kept from line to line:
 
   sheet seal --key FILE --nonce HEX --label WORD TEXT-FILE
@@ -118,6 +121,11 @@ pub impl fmt::Display for Misuse as MisuseDisplay {
             Misuse::NoSheet => write!(f, "there is no sheet in memory"),
             Misuse::OnlyInScripts => write!(f, "a sheet in memory is only for scripts"),
             Misuse::NestedRun => write!(f, "a script cannot run a script"),
+            Misuse::NoKind => write!(f, "nothing stands after --kind"),
+            Misuse::UnknownKind(word) => write!(
+                f,
+                "there is no kind {word}; there are rows and matrices"
+            ),
             Misuse::NotText => write!(f, "the script is not UTF-8 text"),
         }
     }

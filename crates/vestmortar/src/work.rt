@@ -1,7 +1,6 @@
 // Does a command: reads its files, and calls the library.
 ghost use mathlib.Core.Path.{_≡_};
 ghost use Rattle.modes.specs.Sums.{mac-answer, check-answer};
-ghost use Rattle.permutation.specs.Minalpher.{forward};
 ghost use Rattle.std.specs.Of.Vec.{vec-items};
 ghost use Rattle.std.specs.Vec.{made};
 ghost use Rattle.vestmortar.specs.Outcomes.{Holds-key, Signs, checked};
@@ -14,17 +13,12 @@ use crate::failure::Misuse;
 use crate::failure::key_failure;
 use modes::plate::plate_check;
 use modes::plate::plate_mac;
-use permutation::minalpher::SeventeenCount;
-use permutation::words::RowWords;
-use permutation::words::WordsPermutation;
+use permutation::Permutation;
 use std::alloc::Global;
 use std::fs;
 use std::io::ReadMethods;
 use text::hex::parse_hex;
 use text::hex::to_hex;
-
-// The permutation that all commands use.
-pub type Kind = RowWords;
 
 #[derive(Drop)]
 pub enum Outcome {
@@ -89,33 +83,36 @@ pub(crate) fn read_key(rt: &LibcRuntime, name: String) -> Result<Vec<u8>, Failur
 }
 
 // Signs a plate: the outcome is the library's tag, or its refusal.
-fn sign(heap: Global, key: &[u8], plate: &[u8]) -> Result<Outcome, Failure>
-    ensures { λ r. ⌜ Signs (mac-answer (forward 17) (now (key .entry)) (now (plate .entry))) r ⌝ }
+fn sign<K: Permutation>(heap: Global, key: &[u8], plate: &[u8]) -> Result<Outcome, Failure>
+    ensures { λ r. ⌜ Signs (mac-answer (K·Permutation .forth) (now (key .entry)) (now (plate .entry))) r ⌝ }
 {
-    let tag = plate_mac::<Kind>(key, plate)?;
+    let tag = plate_mac::<K>(key, plate)?;
     Ok(Outcome::Tag(to_hex(heap, &tag)?))
 }
 
 // Checks a plate: the outcome is the library's yes, or its refusal.
-fn verify(key: &[u8], plate: &[u8], tag: &[u8]) -> Result<Outcome, Failure>
-    ensures { λ r. ⌜ r ≡ checked (check-answer (forward 17) (now (key .entry)) (now (plate .entry)) (now (tag .entry))) ⌝ }
+fn verify<K: Permutation>(key: &[u8], plate: &[u8], tag: &[u8]) -> Result<Outcome, Failure>
+    ensures { λ r. ⌜ r ≡ checked (check-answer (K·Permutation .forth) (now (key .entry)) (now (plate .entry)) (now (tag .entry))) ⌝ }
 {
-    plate_check::<Kind>(key, plate, tag)?;
+    plate_check::<K>(key, plate, tag)?;
     Ok(Outcome::Agreed)
 }
 
 // Does any command but a run, which cannot stand in a script, and those that stand only there.
-pub(crate) fn perform(rt: &LibcRuntime, command: Command) -> Result<Outcome, Failure> {
+pub(crate) fn perform<K: Permutation>(
+    rt: &LibcRuntime,
+    command: Command,
+) -> Result<Outcome, Failure> {
     match command {
         Command::Plate { key, plate } => {
             let key = read_key(rt, key)?;
             let plate = read_source(rt, plate)?;
-            sign(rt.alloc(), key.as_slice(), plate.as_slice())
+            sign::<K>(rt.alloc(), key.as_slice(), plate.as_slice())
         }
         Command::Check { key, tag, plate } => {
             let key = read_key(rt, key)?;
             let plate = read_source(rt, plate)?;
-            verify(key.as_slice(), plate.as_slice(), tag.as_slice())
+            verify::<K>(key.as_slice(), plate.as_slice(), tag.as_slice())
         }
         Command::Run { .. } => Err(Misuse::NestedRun.into()),
         Command::Sheet(_) => Err(Misuse::OnlyInScripts.into()),

@@ -7,7 +7,7 @@ use Rattle.std.proofs.shelf.Lists.{take-at}
 use Rattle.vestmortar.proofs.calls.read_part.Needs as need
 
 pub returns : need.returns
-returns c =
+returns g c =
     let out = c .read-bytes .last .out in
     let made = c .in-Continue-out .ensures tt .made .1 in
     let asked : length (c .as-mut-slice .result .now) ≡ min (c .args .amount) 131072 = omega (arith, made) in
