@@ -19,6 +19,7 @@ lower-case hexadecimal with `-` for the empty one, numbers in decimal.
     open KIND KEY NONCE LABEL TAG BLOCKS -> LENGTH TEXT or a refusal
     reopen KIND KEY NONCE LABEL TEXT AT N -> TAG LENGTH BYTES or a refusal
     spoilt KIND KEY NONCE LABEL TEXT WHAT -> LENGTH or a refusal
+    stale KIND KEY NONCE LABEL TEXT AT N  -> BYTES or a refusal
     hold SIZE COUNT OP..              -> OUTCOMES
     note SIZE COUNT DEPTH OP..        -> OUTCOMES | COUNT FIRST
 
@@ -49,6 +50,9 @@ spoilt: seals TEXT and opens it with one thing spoilt. WHAT is
     tag       the last byte of the tag xored with 80
     block:K   the first byte of block K xored with 01
     drop      the last block removed
+
+stale: seals TEXT, removes the holder's last block, and reads N bytes from byte AT
+on with the sheet as it was.
 
 hold: a memory holder over SIZE zero bytes, told that COUNT blocks are there,
 is given the operations in turn. OUTCOMES are theirs, joined by `;`.
@@ -219,11 +223,22 @@ def answer_reopen(kind, key, nonce, label, text, at, n):
     opened = sheets.open_sheet(mp.ROUNDS[kind], key, nonce, label, tag,
                                blocks)
     data = sheets.read(opened, blocks, number_of(at), number_of(n))
+    return "%s %d %s" % (word_of(sheets.tag(opened)), opened.length,
+                         excerpt(data))
+
+
+def excerpt(data):
     if len(data) <= 64:
-        shown = word_of(data)
-    else:
-        shown = data[:32].hex() + ".." + data[-32:].hex()
-    return "%s %d %s" % (word_of(sheets.tag(opened)), opened.length, shown)
+        return word_of(data)
+    return data[:32].hex() + ".." + data[-32:].hex()
+
+
+def answer_stale(kind, key, nonce, label, text, at, n):
+    state, blocks = sealed_just_so(
+        kind, bytes_of(key), bytes_of(nonce), long_bytes_of(label),
+        long_bytes_of(text))
+    return excerpt(sheets.read(state, blocks[:-1], number_of(at),
+                               number_of(n)))
 
 
 def xored(data, place, value):
@@ -327,6 +342,7 @@ ANSWERS = {
     "open": answer_open,
     "reopen": answer_reopen,
     "spoilt": answer_spoilt,
+    "stale": answer_stale,
     "hold": answer_hold,
     "note": answer_note,
 }

@@ -1004,12 +1004,23 @@ def note_cases(source):
                        *random_operations(source, 4 + source.below(14)))
 
 
+def stale_cases(source):
+    # Read's 10 comes before its 11.
+    for kind in KINDS:
+        for length in (0, 1, 31, 32, 33, 100):
+            for at, n in ((0, 0), (0, 1), (length, 0), (length + 1, 0),
+                          (0, length + 1)):
+                yield case("stale", kind, source.key(), source.nonce(),
+                           short_label(source), some_bytes(source, length),
+                           at, n)
+
+
 def all_cases():
     parts = [mask_cases, permutation_cases, tem_cases, tem_refusal_cases,
              sum_cases, sum_refusal_cases, check_cases, check_refusal_cases,
              seal_cases, seal_refusal_cases, open_cases, open_tag_cases,
              open_refusal_cases, reopen_cases, spoilt_cases, hold_cases,
-             note_cases]
+             note_cases, stale_cases]
     for number, part in enumerate(parts):
         # A generator for each part: more cases in one leave the others.
         yield from part(Source(SEED + number))

@@ -18,6 +18,7 @@ use crate::sheets::open_case;
 use crate::sheets::reopen_case;
 use crate::sheets::seal_case;
 use crate::sheets::spoilt_case;
+use crate::sheets::stale_case;
 use modes::cipher::tem;
 use modes::cipher::tem_reverse;
 use modes::mask::Mask;
@@ -126,6 +127,7 @@ fn value_by<K: Permutation>(heap: Global, name: &str, words: &[&str]) -> Result<
         ("seal", _) => Ok(Answer::Value(seal_case::<K>(heap, words)?)),
         ("open", _) => Ok(Answer::Value(open_case::<K>(heap, words)?)),
         ("reopen", _) => Ok(Answer::Value(reopen_case::<K>(heap, words)?)),
+        ("stale", _) => Ok(Answer::Value(stale_case::<K>(heap, words)?)),
         ("spoilt", _) => Ok(Answer::Value(spoilt_case::<K>(heap, words)?)),
         _ => Err(Fault::Malformed),
     }

@@ -173,6 +173,24 @@ pub(crate) fn reopen_case<K: Permutation>(heap: Global, words: &[&str]) -> Resul
     Ok(format!(heap, "{tag} {length} {shown}")?)
 }
 
+// A sheet whose holder lost its last block since it was sealed.
+pub(crate) fn stale_case<K: Permutation>(heap: Global, words: &[&str]) -> Result<String, Fault> {
+    let [key, nonce, label, text, at, n] = words else {
+        return Err(Fault::Malformed);
+    };
+    let under = Under::read(heap, key, nonce, label)?;
+    let text = long_bytes_of(heap, text)?;
+    let at = number_of(at)?;
+    let n = number_of(n)?;
+    let mut room = room_for(heap, text.as_slice())?;
+    let mut holder = MemoryHolder::new(room.as_mut_slice(), 0);
+    let sheet = under.seal::<K, MemoryHolder>(text.as_slice(), &mut holder)?;
+    holder.drop_last()?;
+    let mut bytes = vec![in heap; 0u8; n.min(MAX_READ)]?;
+    sheet.read(&holder, at, bytes.as_mut_slice())?;
+    Ok(excerpt(heap, bytes.as_slice())?)
+}
+
 pub(crate) fn spoilt_case<K: Permutation>(heap: Global, words: &[&str]) -> Result<String, Fault> {
     let [key, nonce, label, text, what] = words else {
         return Err(Fault::Malformed);
