@@ -28,6 +28,7 @@ impl<W: WriteBlocks> NoteHolder<W> {
     pub fn into_below(self) -> W
         ensures { λ r. ⌜ r ≡ self .below ⌝ }
     {
+        // The note goes along: it is block 1 below.
         self.below
     }
 
