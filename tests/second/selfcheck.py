@@ -572,6 +572,8 @@ def check_cases():
     for name, refusals in sheet_calls.items():
         wanted.add((name, "taken"))
         wanted.update((name, "declined %s 0" % one) for one in refusals)
+    # A sheet whose holder lost a block is never read.
+    wanted.add(("stale", "declined 10 sheet 0"))
     for holder in ("hold ", "note "):
         for name, numbers in operations.items():
             wanted.add((holder + name, "taken"))

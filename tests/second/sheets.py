@@ -50,15 +50,21 @@ def deciphered(rounds, w, block):
     return fast.xor(w, fast.backward(rounds, fast.xor(block, w)))
 
 
-def seal_blocks(rounds, key, nonce, padded):
-    """The sealed blocks of whole blocks, whatever the last one ends in."""
-    masks = masks_from(rounds, key, nonce, 1)
-    sealed = []
-    for block in padded:
+def at_odd_masks(cipher, rounds, key, nonce, first, blocks):
+    """Each block by `cipher` at its odd mask; `first` is the number of the
+    first block."""
+    masks = masks_from(rounds, key, nonce, 2 * first - 1)
+    done = []
+    for block in blocks:
         odd = next(masks)
         next(masks)
-        sealed.append(enciphered(rounds, odd, block))
-    return sealed
+        done.append(cipher(rounds, odd, block))
+    return done
+
+
+def seal_blocks(rounds, key, nonce, padded):
+    """The sealed blocks of whole blocks, whatever the last one ends in."""
+    return at_odd_masks(enciphered, rounds, key, nonce, 1, padded)
 
 
 def sum_of(rounds, key, nonce, label_sum, blocks):
@@ -86,13 +92,7 @@ def tag_of_blocks(rounds, key, nonce, label, blocks):
 
 def open_blocks(rounds, key, nonce, first, blocks):
     """Sealed blocks taken back; `first` is the number of the first."""
-    masks = masks_from(rounds, key, nonce, 2 * first - 1)
-    opened = []
-    for block in blocks:
-        odd = next(masks)
-        next(masks)
-        opened.append(deciphered(rounds, odd, block))
-    return opened
+    return at_odd_masks(deciphered, rounds, key, nonce, first, blocks)
 
 
 def end_of_text(block):
