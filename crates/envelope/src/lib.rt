@@ -1,4 +1,5 @@
 // Envelopes: a sheet as one string of bytes, sent and received.
+#![tactic(auto)]
 pub mod number;
 pub mod parts;
 pub mod reader;

@@ -1,4 +1,5 @@
 // The modes of Minalpher: masks, the tweakable cipher, label sums and the MAC of plates.
+#![tactic(auto)]
 pub mod cipher;
 pub mod keys;
 pub mod mask;

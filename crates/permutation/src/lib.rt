@@ -1,4 +1,6 @@
 // Permutations of blocks of 32 bytes.
+#![tactic(auto)]
+
 ghost use Rattle.std.specs.Prelude.{◌≡◌, ℕ, List};
 ghost use Rattle.permutation.specs.Blocks.{Inverse};
 

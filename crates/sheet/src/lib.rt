@@ -1,4 +1,5 @@
 // Sheets of text, sealed block by block into a holder.
+#![tactic(auto)]
 pub mod calls;
 mod carried;
 mod changing;
