@@ -15,26 +15,26 @@ walked c = record {
   count_read = c.in-ok-count.ensures.after;
 }
 
-pub overflow-add-told : goal.overflow-add-told
-overflow-add-told c = let h = place_small _ _ _ _ _ _ _ (walked c) in omega (arith, c.place.ensures)
+pub overflow_add-told : goal.overflow_add-told
+overflow_add-told c = let h = place_small _ _ _ _ _ _ _ (walked c) in omega (arith, c.place.ensures)
 
-pub overflow-add-told-2 : goal.overflow-add-told-2
-overflow-add-told-2 c =
+pub overflow_add-told-2 : goal.overflow_add-told-2
+overflow_add-told-2 c =
     let w = walked c in
     let h = place_small _ _ _ _ _ _ _ w in
     let l = label_small _ _ _ _ _ _ _ w in
     omega (arith, c.place.ensures)
 
-pub overflow-add-told-3 : goal.overflow-add-told-3
-overflow-add-told-3 c =
+pub overflow_add-told-3 : goal.overflow_add-told-3
+overflow_add-told-3 c =
     let w = walked c in
     let h = place_small _ _ _ _ _ _ _ w in
     let l = label_small _ _ _ _ _ _ _ w in
     let n = count_small _ _ _ _ _ _ _ w in
     omega (arith, c.place.ensures)
 
-pub overflow-add-told-4 : goal.overflow-add-told-4
-overflow-add-told-4 c =
+pub overflow_add-told-4 : goal.overflow_add-told-4
+overflow_add-told-4 c =
     let w = walked c in
     let h = place_small _ _ _ _ _ _ _ w in
     let l = label_small _ _ _ _ _ _ _ w in

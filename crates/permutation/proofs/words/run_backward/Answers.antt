@@ -5,4 +5,4 @@ use Rattle.permutation.proofs.words.run_backward.Goals as goal
 pub returns : goal.returns
 unfolding backward
 returns c =
-    c.closed.ensures ∙ ap (λ s. block_of (T (S s))) (c.rounds-back.ensures ∙ ap (rounds_back c.args.count) c.read.ensures)
+    c.closed.ensures ∙ ap (λ s. block_of (T (S s))) (c.rounds_back.ensures ∙ ap (rounds_back c.args.count) c.read.ensures)

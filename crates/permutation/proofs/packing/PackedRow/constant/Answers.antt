@@ -20,8 +20,8 @@ written e h =
     same_row (λ j. bits 4 (bit_xor (0x1111_0000 * e) 0x0123_0000) (28 - 4 * j)) (λ j. cond (ltb j 4) (bit_xor e j) 0)
     (λ j l. eqb-true _ _ (at_each (right e) 8 (at_each (λ e. all_below (right e) 8) 16 refl e h) j l))
 
-pub overflow-mul-result : goal.overflow-mul-result
-overflow-mul-result c = let small = first_below c.args.k c.args.i (omega arith) in search rules
+pub overflow_mul-result : goal.overflow_mul-result
+overflow_mul-result c = let small = first_below c.args.k c.args.i (omega arith) in search rules
 
 pub returns : goal.returns
 returns c = written (bit_xor (c.args.k % 16) c.args.i) (first_below c.args.k c.args.i (omega arith))

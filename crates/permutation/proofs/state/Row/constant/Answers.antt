@@ -9,10 +9,10 @@ written : (k i : ℕ)
     → let e = bit_xor (k % 16) i in e ∷ bit_xor e 1 ∷ bit_xor e 2 ∷ bit_xor e 3 ∷ 0 ∷ 0 ∷ 0 ∷ 0 ∷ [] ≡ constant_row k i
 written k i = let first = xor_zero_r (bit_xor (k % 16) i) in cc
 
-pub invariant-of-result : goal.invariant-of-result
-invariant-of-result c =
+pub invariant_of-result : goal.invariant_of-result
+invariant_of-result c =
     let row = row_constant c.args.k c.args.i (omega arith) in
-    (λ j h. subst (λ (x : List ℕ). get_or x j 0 < 16) (sym (written c.args.k c.args.i)) (row.nibbles j h), tt)
+    record { ok = λ j h. subst (λ (x : List ℕ). get_or x j 0 < 16) (sym (written c.args.k c.args.i)) (row.nibbles j h) }
 
 pub returns : goal.returns
 returns c = written c.args.k c.args.i

@@ -10,12 +10,12 @@ loop-j-preserved c =
     filled_more 8 (λ i. nibble c.args.block.now (c.args.n + i))
     c.loop-j.j c.loop-j.cells c.loop-j.invariant (omega arith) c.nibble.result c.nibble.ensures
 
-pub invariant-of-result : goal.invariant-of-result
-invariant-of-result c =
+pub invariant_of-result : goal.invariant_of-result
+invariant_of-result c =
     let block : Block c.args.block.now = (search rules, λ i h. search rules) in
     let small : (j : ℕ) → j < 8 → nibble c.args.block.now (c.args.n + j) < 16 =
     λ j h. nibble_below c.args.block.now block (c.args.n + j) (omega arith) in
-    (λ j h. subst (λ (n : ℕ). n < 16) (sym (c.loop-j.invariant.1 j (omega arith))) (small j h), tt)
+    record { ok = λ j h. subst (λ (n : ℕ). n < 16) (sym (c.loop-j.invariant.1 j (omega arith))) (small j h) }
 
 pub returns : goal.returns
 returns c =

@@ -9,7 +9,7 @@ loop-k-preserved c =
     let k = c.loop-k.k in
     let s = state_view c.loop-k.state in
     let next : suc (k - 1) ≡ k = omega arith in
-    ap (rounds_back (k - 1)) (c.round-state.ensures ∙ ap (λ e. round e s) c.constant-back.ensures)
+    ap (rounds_back (k - 1)) (c.round-state.ensures ∙ ap (λ e. round e s) c.constant_back.ensures)
     ∙ ap (λ n. rounds_back n s) next ∙ c.loop-k.invariant
 
 pub returns : goal.returns
