@@ -1,10 +1,10 @@
 -- A step, place by place.
-use Rattle.std.proofs.Common.{◌≡◌, ℕ, ◌+◌, ◌-◌, ◌*◌, ◌/◌, ◌%◌, ◌<◌, ◌≤◌, cond, ltb, ◌≢◌, List, [], ◌∷◌, ◌++◌, length, get_or, drop, set, sym, refl, ap, ◌∙◌, subst, ⊎_elim, arith}
+use Rattle.std.proofs.Common.{◌≡◌, ℕ, ◌+◌, ◌*◌, ◌/◌, ◌%◌, ◌<◌, ◌≤◌, ltb, ◌≢◌, List, [], ◌∷◌, ◌++◌, length, get_or, drop, set, sym, ap, ◌∙◌, subst, ⊎_elim, arith}
 use Rattle.std.proofs.lemmas.List.{get_or-set_same, get_or-set_other, get_or-drop, get_or_append_left, get_or-append_right, length-append, length-drop, length-set}
 use Rattle.std.proofs.lemmas.Bool.{cases_lt, lt-ltb, le-ltb, cond-true, cond-false}
 use lib.Bits.{bit_xor, xor_zero_r}
 use Rattle.permutation.specs.BlockLaws.{same_entries}
-use Rattle.modes.specs.Masks.{doubled, xor_into, step}
+use Rattle.modes.specs.Masks.{doubled}
 
 -- the carry times A3 is A3 exactly where the top bit is set
 pub double_by_carry : (b : ℕ) → b < 256 → bit_xor (b * 2 % 256) (b / 128 * 0xA3) ≡ doubled b

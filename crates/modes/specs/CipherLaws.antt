@@ -5,12 +5,11 @@ use Rattle.std.proofs.Math.Path.{ap}
 use Rattle.std.proofs.lemmas.List.{get_or_append_left, get_or-append_right, length-append}
 use Rattle.std.proofs.lemmas.Bool.{cases_lt, eqb-true, not-false}
 use Rattle.permutation.specs.Blocks.{Block, Inverse, ◌⊕◌}
-use Rattle.permutation.specs.BlockLaws.{xor_block, xors_comm, xors_cancel, length_xors}
+use Rattle.permutation.specs.BlockLaws.{xor_block, xors_comm, xors_cancel}
 use Rattle.modes.specs.declared.cipher.Usage.{Usage}
 use Rattle.modes.specs.declared.cipher.Usage.TheVariants.{Label, Text, Plate}
 use Rattle.modes.specs.Cipher.{usage_bytes, header, base, masked, tem, tem_reverse, tem_claims, bad_index, bad_block}
 use Rattle.modes.specs.Keys.{Bytes, bad_key, bad_nonce}
-use Rattle.modes.specs.Masks.{mask}
 use Rattle.modes.specs.MaskLaws.{mask_block}
 use Rattle.modes.specs.Refusals.{answer}
 use Rattle.modes.specs.RefusalLaws.{taken_rest}

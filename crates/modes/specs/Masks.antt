@@ -1,5 +1,5 @@
 -- Masks: doubling of a byte, a step and a turn of a block, and mask (i, j).
-use Rattle.std.specs.Prelude.{ℕ, zero, suc, ◌*◌, ◌%◌, cond, List, [], ◌∷◌, ◌++◌, drop, set, bit_xor, nat_lt, slice_index, slice_set}
+use Rattle.std.specs.Prelude.{ℕ, zero, suc, ◌*◌, ◌%◌, cond, List, [], ◌∷◌, ◌++◌, drop, bit_xor, nat_lt, slice_index, slice_set}
 use Rattle.permutation.specs.Blocks.{◌⊕◌}
 
 -- a byte shifted left by one within eight bits, and A3 xored in where its bit 7 was set

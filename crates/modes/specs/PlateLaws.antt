@@ -1,15 +1,14 @@
 -- A plate check says yes exactly for the plate's MAC.
-use Rattle.std.specs.Prelude.{◌≡◌, ℕ, true, false, cond, not, List, [], ◌∷◌, length, Ok, ◌==◌, refl}
+use Rattle.std.specs.Prelude.{◌≡◌, ℕ, true, List, [], ◌∷◌, length, Ok, ◌==◌, refl}
 use Rattle.std.proofs.Common.{sym, ap, ◌∙◌, arith}
 use Rattle.std.proofs.lemmas.List.{length-take}
-use Rattle.std.proofs.lemmas.Bool.{cases_Bool, eq-eqb, not_from_true, not-false, and_parts, and_from, eqb-true}
+use Rattle.std.proofs.lemmas.Bool.{eq-eqb, not_from_true, not-false, and_parts, and_from, eqb-true}
 use Rattle.permutation.specs.BlockLaws.{length_xors}
 use Rattle.modes.specs.declared.cipher.Usage.TheVariants.{Plate}
 use Rattle.modes.specs.Cipher.{base, masked}
 use Rattle.modes.specs.Keys.{bad_key, bad_tag}
-use Rattle.modes.specs.Refusals.{Claim, answer}
 use Rattle.modes.specs.RefusalLaws.{answer_ok, taken_rest, taken_more}
-use Rattle.modes.specs.Sums.{chain, plate_mac, zero_nonce, same, too_long, wrong_tag, sum_claims, check_claims, mac_answer, check_answer, ExactlyItsMac}
+use Rattle.modes.specs.Sums.{chain, plate_mac, zero_nonce, same, too_long, wrong_tag, sum_claims, mac_answer, check_answer, ExactlyItsMac}
 
 -- lists are the same exactly where the test says so
 pub same_true : (x y : List ℕ) → same x y ≡ true → x ≡ y

@@ -1,5 +1,6 @@
 // The modes of Minalpher: masks, the tweakable cipher, label sums and the MAC of plates.
 #![tactic(auto)]
+
 pub mod cipher;
 pub mod keys;
 pub mod mask;

@@ -1,7 +1,7 @@
 -- A block's state, and a state's block: each undoes the other.
 use Rattle.std.specs.Prelude.{◌≡◌, ℕ, ◌+◌, ◌*◌, ◌/◌, ◌%◌, ◌<◌, List, [], ◌==◌, slice_index, slice_index_or, refl}
 use Rattle.std.proofs.Common.{ap, ap₂, ◌∙◌, ⊎_elim, arith, lit<}
-use Rattle.std.specs.List.{AllByRecursion as All}
+use Rattle.std.specs.List.{AllByRecursion}
 use Rattle.std.proofs.lemmas.List.FromFn.{get_or-map-range_with_len}
 use Rattle.std.proofs.ByRecursion.{All-get_or}
 use Rattle.std.proofs.lemmas.Bool.{cases_eq, cond_both, cond-true, cond-false, eq-eqb, ne_eqb}
@@ -58,7 +58,7 @@ block_of_state_of x b =
 
 -- the block of a state
 module _ (s : State) (shape : IsState s) where
-  rows : All IsRow (rows_of s)
+  rows : AllByRecursion IsRow (rows_of s)
   rows =
       let a = shape.0 in
       let b = shape.1 in

@@ -2,8 +2,8 @@ use Rattle.std.proofs.Common.{arith, rules}
 use Rattle.envelope.proofs.Numbering.{read_none, read_one, cut_one, read_two, cut_two, read_three, none_ended}
 use Rattle.envelope.proofs.number.groups_read.Goals as goal
 
-pub returns-then-is-empty : goal.returns-then-is-empty
-returns-then-is-empty c = read_none c.args.bytes.now (search rules)
+pub returns-then-is_empty : goal.returns-then-is_empty
+returns-then-is_empty c = read_none c.args.bytes.now (search rules)
 
 pub returns-then-first-lt-TOP : goal.returns-then-first-lt-TOP
 returns-then-first-lt-TOP c = read_one c.args.bytes.now c.from-first.result (search rules) (search rules) (omega arith)

@@ -3,16 +3,16 @@ use Rattle.envelope.proofs.Walking.{Walk, place_small, label_small, count_small,
 use Rattle.envelope.proofs.parts.parts_of.Goals as goal
 use Rattle.envelope.proofs.parts.parts_of.Goals.{AfterPlace}
 
-walked : (c : AfterPlace) → Walk c.args.bytes c.new-reader.result c.mark.new.self c.number-within.new.self c.number-within-2.new.self c.in-ok-label.label c.in-ok-count.count
+walked : (c : AfterPlace) → Walk c.args.bytes c.new-reader.result c.mark.new.self c.number_within.new.self c.number_within-2.new.self c.in_ok-label.label c.in_ok-count.count
 walked c = record {
   start_bytes = c.new-reader.ensures.bytes;
   start_place = c.new-reader.ensures.place;
   mark_there = search rules;
   mark_read = search rules;
-  label_found = c.in-ok-label.ensures.value;
-  label_read = c.in-ok-label.ensures.after;
-  count_found = c.in-ok-count.ensures.value;
-  count_read = c.in-ok-count.ensures.after;
+  label_found = c.in_ok-label.ensures.value;
+  label_read = c.in_ok-label.ensures.after;
+  count_found = c.in_ok-count.ensures.value;
+  count_read = c.in_ok-count.ensures.after;
 }
 
 pub overflow_add-told : goal.overflow_add-told
@@ -44,7 +44,7 @@ overflow_add-told-4 c =
 pub returns : goal.returns
 returns c =
     let w = walked (goal.at.returns c).After-place in
-    let told : length c.args.bytes.now ≡ c.number-within-2.new.self.place + 13 + c.in-ok-label.label + 32 * c.in-ok-count.count + 16 =
+    let told : length c.args.bytes.now ≡ c.number_within-2.new.self.place + 13 + c.in_ok-label.label + 32 * c.in_ok-count.count + 16 =
     omega (arith, c.if-bytes-told.false, c.place.ensures) in
     answered _ _ _ _ _ _ _ w told c.part.result c.part-2.result c.part-3.result c.part-4.result _ _ _
     (record {

@@ -9,8 +9,8 @@ returns g c =
     let b = g.K.Permutation.back in
     let key = c.args.key.now in
     let bytes = c.args.bytes.now in
-    let e = c.received-sheet.ensures.value in
+    let e = c.received_sheet.ensures.value in
     record {
       value = e;
-      exactly = subst (λ r. ReceivesExactly f b key bytes r) (sym e) (receives_exactly f b key bytes c.received-sheet.ensures.opens);
+      exactly = subst (λ r. ReceivesExactly f b key bytes r) (sym e) (receives_exactly f b key bytes c.received_sheet.ensures.opens);
     }

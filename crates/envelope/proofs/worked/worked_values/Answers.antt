@@ -7,5 +7,5 @@ use Rattle.envelope.proofs.worked.worked_values.Goals as goal
 pub returns-then-sheets : goal.returns-then-sheets
 unfolding groups
 returns-then-sheets c =
-    let size : c.envelope-length-empty.result ≡ 65 = c.envelope-length-empty.ensures in
-    record { stand = worked c.worked-values-sheets.ensures.stand; computed = eq-eqb c.envelope-length-empty.result 65 size }
+    let size : c.envelope_length-empty.result ≡ 65 = c.envelope_length-empty.ensures in
+    record { stand = worked c.worked_values-sheets.ensures.stand; computed = eq-eqb c.envelope_length-empty.result 65 size }

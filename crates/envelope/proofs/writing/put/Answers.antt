@@ -5,5 +5,5 @@ use Rattle.envelope.proofs.writing.put.Goals as goal
 pub returns : goal.returns
 returns c = record {
   end = refl;
-  after = placed_is c.args.at _ c.args.out.now c.copy-from-slice.new.self c.args.bytes.now (omega arith) c.copy-from-slice.ensures.after;
+  after = placed_is c.args.at _ c.args.out.now c.copy_from_slice.new.self c.args.bytes.now (omega arith) c.copy_from_slice.ensures.after;
 }

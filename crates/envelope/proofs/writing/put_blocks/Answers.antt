@@ -31,8 +31,8 @@ pub loop-k-preserved : goal.loop-k-preserved
 loop-k-preserved g c =
     let bs = g.R.ReadBlocks.list c.args.h.now in
     let count : c.count-count.result ≡ length bs = c.count-count.ensures.value in
-    one_more c.args.out.now c.args.at c.loop-k.k bs c.loop-k.out c.held-block.result c.put.new.out
-    (g.R.ReadBlocks.bounded c.args.h.now).whole (omega arith) (omega (arith, c.requires)) c.loop-k.invariant c.held-block.ensures c.put.ensures.after
+    one_more c.args.out.now c.args.at c.loop-k.k bs c.loop-k.out c.held_block.result c.put.new.out
+    (g.R.ReadBlocks.bounded c.args.h.now).whole (omega arith) (omega (arith, c.requires)) c.loop-k.invariant c.held_block.ensures c.put.ensures.after
 
 pub returns : goal.returns
 returns g c =

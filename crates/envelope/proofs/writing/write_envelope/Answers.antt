@@ -17,16 +17,16 @@ returns g c =
     let amount = groups (length bs) in
     let whole = (g.R.ReadBlocks.bounded c.args.h.now).whole in
     let a = written_more xs [] mark 0 _ xs _ (nothing_written xs) c.put-at.ensures.end c.put-at.ensures.after in
-    let b = written_more xs mark size _ _ _ _ a c.put-number-at.ensures.end c.put-number-at.ensures.after in
+    let b = written_more xs mark size _ _ _ _ a c.put_number-at.ensures.end c.put_number-at.ensures.after in
     let d =
     written_more xs (mark ++ size) amount _ _ _ _ b
-    (c.put-number-at-2.ensures.end ∙ ap (λ n. c.put-number-at.result + length (groups n)) count)
-    (c.put-number-at-2.ensures.after ∙ ap (λ n. placed c.put-number-at.new.out c.put-number-at.result (groups n)) count) in
+    (c.put_number-at-2.ensures.end ∙ ap (λ n. c.put_number-at.result + length (groups n)) count)
+    (c.put_number-at-2.ensures.after ∙ ap (λ n. placed c.put_number-at.new.out c.put_number-at.result (groups n)) count) in
     let e = written_more xs ((mark ++ size) ++ amount) c.args.nonce _ _ _ _ d c.put-at-2.ensures.end c.put-at-2.ensures.after in
     let f = written_more xs (((mark ++ size) ++ amount) ++ c.args.nonce) label _ _ _ _ e c.put-at-3.ensures.end c.put-at-3.ensures.after in
     let k =
     written_more xs ((((mark ++ size) ++ amount) ++ c.args.nonce) ++ label) (joined bs) _ _ _ _ f
-    (c.put-blocks-at.ensures.end ∙ ap (λ n. c.put-at-3.result + n) (sym (length_joined bs whole)))
-    c.put-blocks-at.ensures.after in
+    (c.put_blocks-at.ensures.end ∙ ap (λ n. c.put-at-3.result + n) (sym (length_joined bs whole)))
+    c.put_blocks-at.ensures.after in
     let t = written_more xs (((((mark ++ size) ++ amount) ++ c.args.nonce) ++ label) ++ joined bs) c.args.tag _ _ _ _ k c.put.ensures.end c.put.ensures.after in
     t.out_is ∙ ap (overlaid xs) (seven_parts mark size amount c.args.nonce label (joined bs) c.args.tag)

@@ -1,6 +1,5 @@
 use Rattle.std.proofs.Common.{◌≡◌, ℕ, ◌+◌, List, [], ◌++◌, length, take, drop, replicate, refl, ap, ◌∙◌, append_assoc, append-nil, arith, rules}
 use Rattle.std.proofs.lemmas.List.{length-append}
-use Rattle.modes.specs.Cipher.{usage_bytes}
 use Rattle.modes.proofs.Placing.{placed_after}
 use Rattle.modes.proofs.cipher.header.Goals as goal
 

@@ -5,10 +5,10 @@ use Rattle.modes.specs.CipherLaws.{tem_sizes, tem_undone}
 use Rattle.modes.specs.RefusalLaws.{answer_err, answer_ok}
 use Rattle.modes.proofs.cipher.tem.Goals as goal
 
-pub returns-in-err-mask : goal.returns-in-err-mask
-returns-in-err-mask g c =
-    let p = err_from_is_err_and c.from-residual.result c.from-residual.ensures.1 in
-    let e = c.in-err-mask.ensures in
+pub returns-in_err-mask : goal.returns-in_err-mask
+returns-in_err-mask g c =
+    let p = err_from_is_err_and c.from_residual.result c.from_residual.ensures.1 in
+    let e = c.in_err-mask.ensures in
     let claims = tem_claims c.args.key.now c.args.nonce.now c.args.i c.args.j c.args.block.now in
     rw (p.1, p.2) (record { value = sym (answer_err claims _ _ _ (sym e)); undone = tt })
 
@@ -17,7 +17,7 @@ returns g c =
     let key = c.args.key.now in
     let nonce = c.args.nonce.now in
     let x = c.args.block.now in
-    let e = c.in-ok-mask.ensures in
+    let e = c.in_ok-mask.ensures in
     let claims = tem_claims key nonce c.args.i c.args.j x in
     let sizes = tem_sizes key nonce c.args.i c.args.j x _ _ e in
     let law = tem_undone g.K.Permutation.forth g.K.Permutation.back g.met.K.Permutation.inverse key c.args.usage nonce

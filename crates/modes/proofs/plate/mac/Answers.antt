@@ -6,4 +6,4 @@ pub returns : goal.returns
 unfolding plate_mac
 returns g c =
     let f = g.K.Permutation.forth in
-    c.tag-of.ensures ∙ ap (take 16) (c.chained.ensures ∙ ap (λ l. chain f l c.args.plate.now) c.base.ensures)
+    c.tag_of.ensures ∙ ap (take 16) (c.chained.ensures ∙ ap (λ l. chain f l c.args.plate.now) c.base.ensures)

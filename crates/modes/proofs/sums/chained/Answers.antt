@@ -1,4 +1,4 @@
-use Rattle.std.proofs.Common.{◌≡◌, ℕ, ◌+◌, ◌-◌, ◌*◌, ◌/◌, cond, length, sym, refl, ap, ◌∙◌, arith, rules}
+use Rattle.std.proofs.Common.{◌≡◌, ℕ, ◌+◌, ◌-◌, ◌*◌, ◌/◌, cond, length, sym, refl, ap, ◌∙◌, arith}
 use Rattle.std.proofs.lemmas.List.{take_rest}
 use Rattle.permutation.specs.Blocks.{◌⊕◌}
 use Rattle.modes.specs.Cipher.{masked}
@@ -19,11 +19,11 @@ loop-k-preserved g c =
     let x = c.args.text.now in
     let k = c.loop-k.k in
     let moved = c.stepped-next.ensures ∙ ap step c.loop-k.invariant.0 ∙ sym (times_more k step l) in
-    let block = c.first-block-block.ensures ∙ ap (λ y. block_at y 1) (take_rest x (32 * k)) ∙ block_at_drop x k (omega arith) in
-    let added = c.encipher.ensures ∙ ap (λ w. masked f w c.first-block-block.result) moved
+    let block = c.first_block-block.ensures ∙ ap (λ y. block_at y 1) (take_rest x (32 * k)) ∙ block_at_drop x k (omega arith) in
+    let added = c.encipher.ensures ∙ ap (λ w. masked f w c.first_block-block.result) moved
     ∙ ap (masked f (times (k + 1) step l)) block in (
       moved,
-      c.xor-blocks-added.ensures ∙ ap (λ s. s ⊕ c.encipher.result) c.loop-k.invariant.1
+      c.xor_blocks-added.ensures ∙ ap (λ s. s ⊕ c.encipher.result) c.loop-k.invariant.1
           ∙ ap (λ y. xor_to (link f l x) k ⊕ y) added
           ∙ sym (xor_to_more (link f l x) k),
     )
@@ -35,16 +35,16 @@ returns g c =
     let l = c.args.base.bytes in
     let x = c.args.text.now in
     let k = c.loop-k.k in
-    let m = c.saturating-sub-inner.result / 32 in
+    let m = c.saturating_sub-inner.result / 32 in
     let j : ℕ = cond (is_padded (length x)) 2 1 in
     let reached : m ≡ k = omega arith in
     let before : k ≡ blocks_of (length x) - 1 = omega arith in
     let count : k + 1 ≡ blocks_of (length x) = omega arith in
-    let block = c.first-block.ensures ∙ ap (λ y. block_at y 1) (take_rest x (32 * m)) ∙ block_at_drop x m (omega arith)
+    let block = c.first_block.ensures ∙ ap (λ y. block_at y 1) (take_rest x (32 * m)) ∙ block_at_drop x m (omega arith)
     ∙ ap (λ n. block_at x (n + 1)) reached ∙ ap (block_at x) count in
-    let total = c.xor-blocks-total.ensures ∙ ap (λ s. s ⊕ c.first-block.result) c.loop-k.invariant.1
+    let total = c.xor_blocks-total.ensures ∙ ap (λ s. s ⊕ c.first_block.result) c.loop-k.invariant.1
     ∙ ap (λ y. xor_to (link f l x) k ⊕ y) block
     ∙ ap (λ n. xor_to (link f l x) n ⊕ block_at x (blocks_of (length x))) before in
     let mask = c.ended.ensures ∙ ap (times j turn) c.loop-k.invariant.0 ∙ ap (λ n. times j turn (times n step l)) before in
-    c.encipher-2.ensures ∙ ap (λ w. masked f w c.xor-blocks-total.result) mask
+    c.encipher-2.ensures ∙ ap (λ w. masked f w c.xor_blocks-total.result) mask
     ∙ ap (masked f (times j turn (times (blocks_of (length x) - 1) step l))) total

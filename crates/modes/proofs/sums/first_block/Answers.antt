@@ -10,7 +10,7 @@ returns-then-n-lt32 c =
     (λ h. let n : c.min-n.result ≡ length c.args.text.now = omega arith in grind (arith, places, get_or-set_same))
     (λ i h l.
     let n : c.min-n.result ≡ length c.args.text.now = omega arith in
-    zeros_past c.copy-from-slice.new.self c.min-n.result (c.min-n.result - 0) i 0x80 (search rules) (omega arith))
+    zeros_past c.copy_from_slice.new.self c.min-n.result (c.min-n.result - 0) i 0x80 (search rules) (omega arith))
 
 pub returns-else-n-lt32 : goal.returns-else-n-lt32
 returns-else-n-lt32 c =

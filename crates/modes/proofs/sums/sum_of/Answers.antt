@@ -1,10 +1,10 @@
-use Rattle.std.proofs.Common.{sym, ap, ◌∙◌, rules}
+use Rattle.std.proofs.Common.{ap, ◌∙◌, rules}
 use Rattle.modes.specs.Sums.{label_sum, chain}
 use Rattle.modes.proofs.sums.sum_of.Goals as goal
 
-pub returns-then-is-empty : goal.returns-then-is-empty
+pub returns-then-is_empty : goal.returns-then-is_empty
 unfolding label_sum
-returns-then-is-empty g c = search rules
+returns-then-is_empty g c = search rules
 
 pub returns : goal.returns
 unfolding label_sum

@@ -1,4 +1,3 @@
-use Rattle.std.proofs.Common.{rules}
 use Rattle.modes.proofs.WorkedValues.{worked}
 use Rattle.modes.proofs.worked.worked_values.Goals as goal
 

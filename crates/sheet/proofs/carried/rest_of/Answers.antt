@@ -6,4 +6,4 @@ pub returns : goal.returns
 returns c =
     let size : length c.args.block ≡ 32 = search rules in
     let half : length (drop 16 c.args.block) ≤ 16 = simp length-drop (omega arith) in
-    c.copy-from-slice.ensures.after ∙ take_all 16 (drop 16 c.args.block) half
+    c.copy_from_slice.ensures.after ∙ take_all 16 (drop 16 c.args.block) half

@@ -11,11 +11,11 @@ together x y fx fy bx by first second ex ey dx dy f s =
 
 pub returns-then-first : goal.returns-then-first
 returns-then-first c =
-    sym (ap (λ a. a && c.same-tag-second.result) c.if-first.true)
-    ∙ together c.args.left c.args.right _ _ _ _ _ _ c.tag-of.ensures c.tag-of-2.ensures c.rest-of.ensures c.rest-of-2.ensures c.same-tag-first.ensures c.same-tag-second.ensures
+    sym (ap (λ a. a && c.same_tag-second.result) c.if-first.true)
+    ∙ together c.args.left c.args.right _ _ _ _ _ _ c.tag_of.ensures c.tag_of-2.ensures c.rest_of.ensures c.rest_of-2.ensures c.same_tag-first.ensures c.same_tag-second.ensures
 
 pub returns-else-first : goal.returns-else-first
 returns-else-first c =
     c.if-first.false
-    ∙ sym (ap (λ a. a && c.same-tag-second.result) c.if-first.false)
-    ∙ together c.args.left c.args.right _ _ _ _ _ _ c.tag-of.ensures c.tag-of-2.ensures c.rest-of.ensures c.rest-of-2.ensures c.same-tag-first.ensures c.same-tag-second.ensures
+    ∙ sym (ap (λ a. a && c.same_tag-second.result) c.if-first.false)
+    ∙ together c.args.left c.args.right _ _ _ _ _ _ c.tag_of.ensures c.tag_of-2.ensures c.rest_of.ensures c.rest_of-2.ensures c.same_tag-first.ensures c.same_tag-second.ensures

@@ -8,18 +8,18 @@ use Rattle.sheet.proofs.Claims.{append_found}
 use Rattle.sheet.proofs.Texts.{length_opened}
 use Rattle.sheet.proofs.changing.append_state.Goals as goal
 
-pub edit-state-requires : goal.edit-state-requires
-edit-state-requires g c =
-    let found = append_found c.args.state _ (g.H.ReadBlocks.list c.args.h.now) _ tt tt c.in-ok-append-checks.ensures in
+pub edit_state-requires : goal.edit_state-requires
+edit_state-requires g c =
+    let found = append_found c.args.state _ (g.H.ReadBlocks.list c.args.h.now) _ tt tt c.in_ok-append_checks.ensures in
     search rules
 
-pub returns-then-is-empty : goal.returns-then-is-empty
-returns-then-is-empty g c =
+pub returns-then-is_empty : goal.returns-then-is_empty
+returns-then-is_empty g c =
     let s = c.args.state in
     let bs = g.H.ReadBlocks.list c.args.h.now in
     let d = c.args.bytes.now in
     let cipher = under g.K.Permutation.forth g.K.Permutation.back s in
-    let checked = c.in-ok-append-checks.ensures in
+    let checked = c.in_ok-append_checks.ensures in
     let found = append_found s _ bs (length d) tt tt checked in
     let none : length d ≡ 0 = search rules in
     let size : length s.sum ≡ 32 = search rules in
@@ -43,9 +43,9 @@ returns g c =
     let cipher = under g.K.Permutation.forth g.K.Permutation.back s in
     let same = append_laid cipher s bs d (search rules) in
     record {
-      value = taken_with (append_claims s _ bs (length d)) _ _ c.in-ok-append-checks.ensures (c.edit-state.ensures.value ∙ ap (λ e. edited cipher e s bs) same);
-      after = c.edit-state.ensures.after ∙ ap (λ e. altered cipher e bs) same;
-      same_room = c.edit-state.ensures.same-room;
+      value = taken_with (append_claims s _ bs (length d)) _ _ c.in_ok-append_checks.ensures (c.edit_state.ensures.value ∙ ap (λ e. edited cipher e s bs) same);
+      after = c.edit_state.ensures.after ∙ ap (λ e. altered cipher e bs) same;
+      same_room = c.edit_state.ensures.same_room;
       untouched = λ x. absurd (true≢false x);
       keyed = search rules;
     }

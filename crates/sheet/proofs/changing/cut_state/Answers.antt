@@ -8,9 +8,9 @@ use Rattle.sheet.proofs.Layings.{length_shortened}
 use Rattle.sheet.proofs.Texts.{length_opened}
 use Rattle.sheet.proofs.changing.cut_state.Goals as goal
 
-pub edit-state-requires : goal.edit-state-requires
-edit-state-requires g c =
-    let found = cut_found c.args.state (g.H.ReadBlocks.list c.args.h.now) _ tt tt c.in-ok-cut-checks.ensures in
+pub edit_state-requires : goal.edit_state-requires
+edit_state-requires g c =
+    let found = cut_found c.args.state (g.H.ReadBlocks.list c.args.h.now) _ tt tt c.in_ok-cut_checks.ensures in
     search rules
 
 pub returns-then-amount-eq0 : goal.returns-then-amount-eq0
@@ -19,7 +19,7 @@ returns-then-amount-eq0 g c =
     let bs = g.H.ReadBlocks.list c.args.h.now in
     let n = c.args.amount in
     let cipher = under g.K.Permutation.forth g.K.Permutation.back s in
-    let checked = c.in-ok-cut-checks.ensures in
+    let checked = c.in_ok-cut_checks.ensures in
     let found = cut_found s bs n tt tt checked in
     let none : n ≡ 0 = search rules in
     let size : length s.sum ≡ 32 = search rules in
@@ -43,9 +43,9 @@ returns g c =
     let cipher = under g.K.Permutation.forth g.K.Permutation.back s in
     let same = cut_laid cipher s bs n (search rules) in
     record {
-      value = taken_with (cut_claims s bs n) _ _ c.in-ok-cut-checks.ensures (c.edit-state.ensures.value ∙ ap (λ e. edited cipher e s bs) same);
-      after = c.edit-state.ensures.after ∙ ap (λ e. altered cipher e bs) same;
-      same_room = c.edit-state.ensures.same-room;
+      value = taken_with (cut_claims s bs n) _ _ c.in_ok-cut_checks.ensures (c.edit_state.ensures.value ∙ ap (λ e. edited cipher e s bs) same);
+      after = c.edit_state.ensures.after ∙ ap (λ e. altered cipher e bs) same;
+      same_room = c.edit_state.ensures.same_room;
       untouched = λ x. absurd (true≢false x);
       keyed = search rules;
     }

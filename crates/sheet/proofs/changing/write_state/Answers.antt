@@ -8,14 +8,14 @@ use Rattle.sheet.proofs.Layings.{length_overwritten}
 use Rattle.sheet.proofs.Texts.{length_opened}
 use Rattle.sheet.proofs.changing.write_state.Goals as goal
 
-pub returns-then-is-empty : goal.returns-then-is-empty
-returns-then-is-empty g c =
+pub returns-then-is_empty : goal.returns-then-is_empty
+returns-then-is_empty g c =
     let s = c.args.state in
     let bs = g.H.ReadBlocks.list c.args.h.now in
     let at = c.args.at in
     let d = c.args.bytes.now in
     let cipher = under g.K.Permutation.forth g.K.Permutation.back s in
-    let checked = c.in-ok-check-range.ensures in
+    let checked = c.in_ok-check_range.ensures in
     let found = range_found s bs at (length d) tt tt checked in
     let none : length d ≡ 0 = search rules in
     let size : length s.sum ≡ 32 = search rules in
@@ -39,13 +39,13 @@ returns g c =
     let at = c.args.at in
     let d = c.args.bytes.now in
     let cipher = under g.K.Permutation.forth g.K.Permutation.back s in
-    let checked = c.in-ok-check-range.ensures in
+    let checked = c.in_ok-check_range.ensures in
     let found = range_found s bs at (length d) tt tt checked in
     let same = write_laid cipher s bs at d found.within (search rules) in
     record {
-      value = taken_with (write_claims s bs at (length d)) _ _ checked (c.edit-state.ensures.value ∙ ap (λ e. edited cipher e s bs) same);
-      after = c.edit-state.ensures.after ∙ ap (λ e. altered cipher e bs) same;
-      same_room = c.edit-state.ensures.same-room;
+      value = taken_with (write_claims s bs at (length d)) _ _ checked (c.edit_state.ensures.value ∙ ap (λ e. edited cipher e s bs) same);
+      after = c.edit_state.ensures.after ∙ ap (λ e. altered cipher e bs) same;
+      same_room = c.edit_state.ensures.same_room;
       untouched = λ x. absurd (true≢false x);
       keyed = search rules;
     }

@@ -18,12 +18,12 @@ returns g c =
     let w = c.at-start.result.bytes in
     let mask : w ≡ times (2 * (at / 32)) step (base f s.key.bytes Text s.nonce.bytes) = c.at-start.ensures ∙ ap (times (2 * (at / 32)) step) c.base.ensures in
     let mid = g.H.ReadBlocks.list c.reseal.new.h in
-    let after = g.H.ReadBlocks.list c.drop-to.new.h in
+    let after = g.H.ReadBlocks.list c.drop_to.new.h in
     record {
       value =
-          worked_state f b s bs limit at d n c.args.old-end c.args.new-end c.requires w mask mid after c.reseal.ensures.changed c.drop-to.ensures.after
-          c.part-adds-given.result c.part-adds-taken.result c.xor-blocks-change.result c.xor-blocks.result
-          c.part-adds-given.ensures c.part-adds-taken.ensures c.xor-blocks-change.ensures c.xor-blocks.ensures;
-      after = worked_list f b s bs limit at d n c.args.old-end c.args.new-end c.requires w mask mid after c.reseal.ensures.changed c.drop-to.ensures.after;
-      same_room = c.drop-to.ensures.same-room ∙ c.reseal.ensures.same-room;
+          worked_state f b s bs limit at d n c.args.old_end c.args.new_end c.requires w mask mid after c.reseal.ensures.changed c.drop_to.ensures.after
+          c.part_adds-given.result c.part_adds-taken.result c.xor_blocks-change.result c.xor_blocks.result
+          c.part_adds-given.ensures c.part_adds-taken.ensures c.xor_blocks-change.ensures c.xor_blocks.ensures;
+      after = worked_list f b s bs limit at d n c.args.old_end c.args.new_end c.requires w mask mid after c.reseal.ensures.changed c.drop_to.ensures.after;
+      same_room = c.drop_to.ensures.same_room ∙ c.reseal.ensures.same_room;
     }

@@ -20,8 +20,8 @@ loop-k-preserved g c =
     let even = even_mask w (k - from) c.loop-k.mask.bytes c.loop-k.invariant.0 c.stepped.result.bytes c.stepped-even.result.bytes c.stepped.ensures c.stepped-even.ensures in (
       even ∙ ap (λ n. times (2 * n) step w) next,
       part_more g.K.Permutation.forth w (g.R.ReadBlocks.list c.args.h.now) from k c.count-count.result c.loop-k.sum
-          c.stepped-even.result.bytes c.block-adds-more.result _ low c.count-count.ensures.value c.loop-k.invariant.1 even
-          (c.block-adds-more.ensures
-          ∙ ap (λ x. cond (eqb (k + 1) c.count-count.result) x (masked g.K.Permutation.forth c.stepped-even.result.bytes x)) c.held-block.ensures)
-          c.xor-blocks-added.ensures,
+          c.stepped-even.result.bytes c.block_adds-more.result _ low c.count-count.ensures.value c.loop-k.invariant.1 even
+          (c.block_adds-more.ensures
+          ∙ ap (λ x. cond (eqb (k + 1) c.count-count.result) x (masked g.K.Permutation.forth c.stepped-even.result.bytes x)) c.held_block.ensures)
+          c.xor_blocks-added.ensures,
     )

@@ -4,8 +4,8 @@ use Rattle.sheet.proofs.Masking.{odd_mask, even_mask}
 use Rattle.sheet.proofs.Partials.{reseal_more}
 use Rattle.sheet.proofs.editing.reseal.Goals as goal
 
-pub reseal-block-requires : goal.reseal-block-requires
-reseal-block-requires g c =
+pub reseal_block-requires : goal.reseal_block-requires
+reseal_block-requires g c =
     let r = c.loop-i.invariant.1.count in
     let room = c.loop-i.invariant.2 in
     let p = c.requires in
@@ -25,6 +25,6 @@ loop-i-preserved g c =
       even ∙ ap (λ n. times (2 * n) step w) next,
       reseal_more g.K.Permutation.forth g.K.Permutation.back _ _ _ w c.stepped-odd.result.bytes (g.H.ReadBlocks.list c.args.h.now)
           (g.H.ReadBlocks.list c.loop-i.h) _ from i low (omega arith) c.loop-i.invariant.1 (odd ∙ ap (λ n. times n step w) place)
-          c.reseal-block.ensures.after,
-      c.reseal-block.ensures.same-room ∙ c.loop-i.invariant.2,
+          c.reseal_block.ensures.after,
+      c.reseal_block.ensures.same_room ∙ c.loop-i.invariant.2,
     )

@@ -26,10 +26,10 @@ loop-k-preserved g c =
     let bs = g.H.ReadBlocks.list c.args.h.now in
     let all = c.count-k-end.ensures.value in
     let low = c.loop-k.auto.-k in
-    let e = c.drop-last.ensures in (
-      one_less bs (g.H.ReadBlocks.list c.loop-k.h) _ (length bs + c.args.count - c.loop-k.-k) _ c.drop-last.result
+    let e = c.drop_last.ensures in (
+      one_less bs (g.H.ReadBlocks.list c.loop-k.h) _ (length bs + c.args.count - c.loop-k.-k) _ c.drop_last.result
           c.loop-k.invariant.0 (omega arith) (omega arith) (omega arith) e.value e.after,
-      e.same-room ∙ c.loop-k.invariant.1,
+      e.same_room ∙ c.loop-k.invariant.1,
     )
 
 pub returns : goal.returns

@@ -19,9 +19,9 @@ loop-k-preserved g c =
     let bs = g.R.ReadBlocks.list c.args.h.now in
     let k = c.loop-k.k in
     let even = even_mask l k c.loop-k.mask.bytes c.loop-k.invariant.0 c.stepped.result.bytes c.stepped-even.result.bytes c.stepped.ensures c.stepped-even.ensures in
-    let adds = c.encipher.ensures ∙ ap (λ w. masked f w c.held-block.result) even
-    ∙ ap (masked f (times (2 * (k + 1)) step l)) c.held-block.ensures in (
+    let adds = c.encipher.ensures ∙ ap (λ w. masked f w c.held_block.result) even
+    ∙ ap (masked f (times (2 * (k + 1)) step l)) c.held_block.ensures in (
       even,
-      c.xor-blocks-added.ensures ∙ ap (λ s. s ⊕ c.encipher.result) c.loop-k.invariant.1
+      c.xor_blocks-added.ensures ∙ ap (λ s. s ⊕ c.encipher.result) c.loop-k.invariant.1
           ∙ ap (λ y. xor_to (block_adds f l bs) k ⊕ y) adds ∙ sym (xor_to_more (block_adds f l bs) k),
     )

@@ -24,29 +24,29 @@ returns g c =
     let all = c.requires.1 in
     let back : m - 1 + 1 ≡ m = omega arith in
     let count : length bs ≡ m - 1 + 1 = omega arith in
-    let odd = odd_mask l (m - 1) c.inner-total.result.0.bytes c.inner-total.ensures.mask c.stepped-odd.result.bytes c.stepped-odd.ensures
+    let odd = odd_mask l (m - 1) c.inner_total.result.0.bytes c.inner_total.ensures.mask c.stepped-odd.result.bytes c.stepped-odd.ensures
     ∙ ap (λ k. times (2 * k - 1) step l) back in
-    let blocks = c.xor-blocks.ensures ∙ ap (λ x. x ⊕ c.held-block-last.result) c.inner-total.ensures.sum
-    ∙ ap (λ y. xor_to (block_adds f l bs) (m - 1) ⊕ y) c.held-block-last.ensures
+    let blocks = c.xor_blocks.ensures ∙ ap (λ x. x ⊕ c.held_block-last.result) c.inner_total.ensures.sum
+    ∙ ap (λ y. xor_to (block_adds f l bs) (m - 1) ⊕ y) c.held_block-last.ensures
     ∙ ap (λ k. xor_to (block_adds f l bs) (m - 1) ⊕ block bs k) (sym back)
     ∙ ap (λ w. xor_to (block_adds f w bs) (m - 1) ⊕ block bs (m - 1 + 1)) is
     ∙ sym (total_last cipher bs (m - 1) count) in
-    let sum : c.xor-blocks-sum.result ≡ sum_of cipher c.args.label.now bs =
-    c.xor-blocks-sum.ensures ∙ ap (λ x. x ⊕ c.xor-blocks.result) c.sum-of-label.ensures
+    let sum : c.xor_blocks-sum.result ≡ sum_of cipher c.args.label.now bs =
+    c.xor_blocks-sum.ensures ∙ ap (λ x. x ⊕ c.xor_blocks.result) c.sum_of-label.ensures
     ∙ ap (λ y. label_sum f c.args.key.bytes c.args.label.now ⊕ y) blocks in
     record {
-      label = c.sum-of-label.ensures;
+      label = c.sum_of-label.ensures;
       sum = sum;
       tag =
-          c.tag-of.ensures
+          c.tag_of.ensures
           ∙ ap (take 16)
-          (c.encipher.ensures ∙ ap (λ w. masked f w c.xor-blocks-sum.result) (c.turned.ensures ∙ ap turn odd)
+          (c.encipher.ensures ∙ ap (λ w. masked f w c.xor_blocks-sum.result) (c.turned.ensures ∙ ap turn odd)
           ∙ ap (masked f (turn (times (2 * m - 1) step l))) sum)
           ∙ ap (λ w. fin_at f w m (sum_of cipher c.args.label.now bs)) is
           ∙ ap (λ k. cipher.fin k (sum_of cipher c.args.label.now bs)) all;
       plain =
-          c.decipher.ensures ∙ ap (λ w. masked b w c.held-block-last.result) odd
-          ∙ ap (masked b (times (2 * m - 1) step l)) c.held-block-last.ensures
+          c.decipher.ensures ∙ ap (λ w. masked b w c.held_block-last.result) odd
+          ∙ ap (masked b (times (2 * m - 1) step l)) c.held_block-last.ensures
           ∙ ap (λ w. enc_at b w m (block bs m)) is
           ∙ ap (λ k. cipher.dec k (block bs k)) all;
     }

@@ -7,11 +7,11 @@ pub returns : goal.returns
 returns c =
     let out = c.args.out.now in
     let plain = c.args.plain in
-    let lo = c.saturating-sub-lo.result in
+    let lo = c.saturating_sub-lo.result in
     let hi = c.min-hi.result in
-    let skipped = c.saturating-sub-skipped.result in
-    let part = c.copy-from-slice.new.self in
-    let is = c.copy-from-slice.ensures.after in
+    let skipped = c.saturating_sub-skipped.result in
+    let part = c.copy_from_slice.new.self in
+    let is = c.copy_from_slice.ensures.after in
     let size : length part ≡ hi - lo = search rules in
     let within : lo ≤ length out = omega arith in
     record {

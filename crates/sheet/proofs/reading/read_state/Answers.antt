@@ -19,7 +19,7 @@ returns g c =
     let cipher = under g.K.Permutation.forth g.K.Permutation.back s in
     let counted : length bs ≡ blocks_in s.length = search rules in
     let fits : at + n ≤ s.length = omega arith in
-    let size : length c.copy-out.new.out ≡ n = search rules in
+    let size : length c.copy_out.new.out ≡ n = search rules in
     let long = length_opened cipher bs s.length in
     let dropped = length-drop at (opened cipher bs s.length) in
     let taken = length-take n (drop at (opened cipher bs s.length)) in
@@ -29,9 +29,9 @@ returns g c =
           sym (taken_more (miscounted s bs) (past_end s at n ∷ []) tt (not_from_true (eqb (length bs) (blocks_in s.length)) (eq-eqb (length bs) (blocks_in s.length) counted))
           ∙ taken_more (past_end s at n) [] tt (le-ltb s.length (at + n) fits));
       copied =
-          same_entries n c.copy-out.new.out (read_bytes cipher s bs at n) size whole
+          same_entries n c.copy_out.new.out (read_bytes cipher s bs at n) size whole
           (λ i h.
-          c.copy-out.ensures i h
+          c.copy_out.ensures i h
           ∙ ap (λ l. opened_byte g.K.Permutation.back l bs (at + i)) c.base.ensures
           ∙ sym (get_or-take n (drop at (opened cipher bs s.length)) i 0 h
           ∙ get_or-drop at (opened cipher bs s.length) i 0

@@ -15,8 +15,8 @@ pub loop-k-init : goal.loop-k-init
 unfolding xor_to
 loop-k-init g c = (refl, refl, c.requires.0, refl)
 
-pub add-block-requires : goal.add-block-requires
-add-block-requires g c =
+pub add_block-requires : goal.add_block-requires
+add_block-requires g c =
     let f = sealed_block g.K.Permutation.forth c.args.base.bytes c.args.text.now in
     let n : length (g.H.ReadBlocks.list c.loop-k.h) ≡ c.loop-k.k = ap length c.loop-k.invariant.2 ∙ length-map-range_with_len f 1 c.loop-k.k in
     let r = c.loop-k.invariant.3 in
@@ -31,16 +31,16 @@ loop-k-preserved g c =
     let k = c.loop-k.k in
     let odd = odd_mask l k c.loop-k.mask.bytes c.loop-k.invariant.0 c.stepped-odd.result.bytes c.stepped-odd.ensures in
     let even = even_mask l k c.loop-k.mask.bytes c.loop-k.invariant.0 c.stepped-odd.result.bytes c.stepped-even.result.bytes c.stepped-odd.ensures c.stepped-even.ensures in
-    let plain = c.first-block.ensures ∙ ap (λ y. block_at y 1) (take_rest t (32 * k)) ∙ block_at_drop t k (omega arith) in
+    let plain = c.first_block.ensures ∙ ap (λ y. block_at y 1) (take_rest t (32 * k)) ∙ block_at_drop t k (omega arith) in
     let block : c.encipher-block.result ≡ sealed_block f l t (k + 1) =
-    c.encipher-block.ensures ∙ ap (λ w. masked f w c.first-block.result) odd ∙ ap (masked f (times (2 * (k + 1) - 1) step l)) plain in
+    c.encipher-block.ensures ∙ ap (λ w. masked f w c.first_block.result) odd ∙ ap (masked f (times (2 * (k + 1) - 1) step l)) plain in
     let adds : c.encipher.result ≡ sealed_adds f l t (k + 1) =
     c.encipher.ensures ∙ ap (λ w. masked f w c.encipher-block.result) even ∙ ap (masked f (times (2 * (k + 1)) step l)) block in (
       even,
-      c.xor-blocks-added.ensures ∙ ap (λ s. s ⊕ c.encipher.result) c.loop-k.invariant.1
+      c.xor_blocks-added.ensures ∙ ap (λ s. s ⊕ c.encipher.result) c.loop-k.invariant.1
           ∙ ap (λ y. xor_to (sealed_adds f l t) k ⊕ y) adds ∙ sym (xor_to_more (sealed_adds f l t) k),
-      c.add-block.ensures.after ∙ ap (λ x. x ++ c.encipher-block.result ∷ []) c.loop-k.invariant.2
+      c.add_block.ensures.after ∙ ap (λ x. x ++ c.encipher-block.result ∷ []) c.loop-k.invariant.2
           ∙ ap (λ b. map (sealed_block f l t) (range_with_len 1 k) ++ b ∷ []) block
           ∙ sym (map-range_with_len_more (sealed_block f l t) 1 k (k + 1) (omega arith)),
-      c.add-block.ensures.same-room ∙ c.loop-k.invariant.3,
+      c.add_block.ensures.same_room ∙ c.loop-k.invariant.3,
     )

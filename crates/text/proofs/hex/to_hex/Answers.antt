@@ -7,9 +7,9 @@ use Rattle.text.proofs.hex.to_hex.Goals as goal
 
 pub loop-byte-preserved : goal.loop-byte-preserved
 loop-byte-preserved c =
-    let pair = c.hex-pair-high.ensures in
-    let first = pushed _ c.loop-byte.invariant c.in-ok-push.was c.push.ensures.bytes in
-    let second = pushed _ first c.in-ok-push-2.was c.push-in-loop-byte.ensures.bytes in
+    let pair = c.hex_pair-high.ensures in
+    let first = pushed _ c.loop-byte.invariant c.in_ok-push.was c.push.ensures.bytes in
+    let second = pushed _ first c.in_ok-push-2.was c.push-in-loop-byte.ensures.bytes in
     let high = c.push.ensures.ascii pair.ascii.0 in
     let low = c.push-in-loop-byte.ensures.ascii pair.ascii.1 in
     rw (high, low) at second

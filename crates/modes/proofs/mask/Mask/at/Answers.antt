@@ -5,8 +5,8 @@ use Rattle.modes.proofs.mask.Mask.at.Goals as goal
 
 pub loop-k-preserved : goal.loop-k-preserved
 loop-k-preserved c =
-    c.stepped-m.ensures ∙ ap step c.loop-k.invariant ∙ sym (times_more c.loop-k.-k step c.args.self.bytes)
+    c.stepped-m.ensures ∙ ap step c.loop-k.invariant ∙ sym (times_more c.loop-k._k step c.args.self.bytes)
 
 pub loop-k-2-preserved : goal.loop-k-2-preserved
 loop-k-2-preserved c =
-    c.turned-m.ensures ∙ ap turn c.loop-k-2.invariant ∙ sym (times_more c.loop-k-2.-k turn c.loop-k.m.bytes)
+    c.turned-m.ensures ∙ ap turn c.loop-k-2.invariant ∙ sym (times_more c.loop-k-2._k turn c.loop-k.m.bytes)

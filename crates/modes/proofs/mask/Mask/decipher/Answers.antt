@@ -6,5 +6,5 @@ use Rattle.modes.proofs.mask.Mask.decipher.Goals as goal
 pub returns : goal.returns
 unfolding masked
 returns g c =
-    c.xor-blocks-2.ensures
-    ∙ ap (λ y. c.args.self.bytes ⊕ y) (c.backward.ensures ∙ ap g.K.Permutation.back c.xor-blocks.ensures)
+    c.xor_blocks-2.ensures
+    ∙ ap (λ y. c.args.self.bytes ⊕ y) (c.backward.ensures ∙ ap g.K.Permutation.back c.xor_blocks.ensures)

@@ -6,5 +6,5 @@ use Rattle.modes.proofs.mask.Mask.encipher.Goals as goal
 pub returns : goal.returns
 unfolding masked
 returns g c =
-    c.xor-blocks-2.ensures
-    ∙ ap (λ y. c.args.self.bytes ⊕ y) (c.forward.ensures ∙ ap g.K.Permutation.forth c.xor-blocks.ensures)
+    c.xor_blocks-2.ensures
+    ∙ ap (λ y. c.args.self.bytes ⊕ y) (c.forward.ensures ∙ ap g.K.Permutation.forth c.xor_blocks.ensures)

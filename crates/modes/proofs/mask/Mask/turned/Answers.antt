@@ -5,4 +5,4 @@ use Rattle.modes.proofs.mask.Mask.turned.Goals as goal
 
 pub returns : goal.returns
 unfolding turn
-returns c = c.xor-blocks.ensures ∙ ap (λ y. y ⊕ c.args.self.bytes) c.stepped.ensures
+returns c = c.xor_blocks.ensures ∙ ap (λ y. y ⊕ c.args.self.bytes) c.stepped.ensures

@@ -15,8 +15,8 @@ returns g c =
     elim c.if-count-eq0.branch [
       | then_count_eq0+in_ok_add w ↦
           let is : mid ≡ w.add.new.self = ap (λ h. h.below) w.self-is in
-          let e = w.in-ok-add.ensures in
-          (ap m.room is ∙ e.same-room, note_made below (m.list mid) (omega arith) (ap m.list is ∙ e.after))
+          let e = w.in_ok-add.ensures in
+          (ap m.room is ∙ e.same_room, note_made below (m.list mid) (omega arith) (ap m.list is ∙ e.after))
       | else_count_eq0 w ↦
           let is : mid ≡ old = ap (λ h. h.below) w.self-is in
           (ap m.room is, ap m.list is ∙ note_there below (omega arith))

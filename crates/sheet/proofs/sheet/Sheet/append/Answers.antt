@@ -17,15 +17,15 @@ returns g c =
     let cipher = under f b s in
     let limit = g.H.ReadBlocks.room c.args.h.now in
     let d = c.args.bytes.now in
-    let e = c.in-ok-state.ensures in
-    let taken = answer_ok (append_claims s limit bs (length d)) (appended cipher s bs d) c.in-ok-state.state (tt {0}) (sym e.value) in
+    let e = c.in_ok-state.ensures in
+    let taken = answer_ok (append_claims s limit bs (length d)) (appended cipher s bs d) c.in_ok-state.state (tt {0}) (sym e.value) in
     let laws : Lawful cipher = lawful f b g.met.K.Permutation.inverse s.key.bytes s.nonce.bytes e.keyed.0 e.keyed.1 in
     let given : AllBytes d = λ i. search rules in
     record {
       value = sym taken.1;
       state = taken.0;
       after = e.after;
-      same_room = e.same-room;
+      same_room = e.same_room;
       untouched = e.untouched;
       stands = λ text text_label it. append_step f b s bs text text_label laws it d limit given (Ok tt) (sym taken.1) _ _ taken.0 e.after;
     }

@@ -15,14 +15,14 @@ returns g c =
     let bs = g.H.ReadBlocks.list c.args.h.now in
     let cipher = under f b s in
     let n = c.args.amount in
-    let e = c.in-ok-state.ensures in
-    let taken = answer_ok (cut_claims s bs n) (cut_back cipher s bs n) c.in-ok-state.state (tt {0}) (sym e.value) in
+    let e = c.in_ok-state.ensures in
+    let taken = answer_ok (cut_claims s bs n) (cut_back cipher s bs n) c.in_ok-state.state (tt {0}) (sym e.value) in
     let laws : Lawful cipher = lawful f b g.met.K.Permutation.inverse s.key.bytes s.nonce.bytes e.keyed.0 e.keyed.1 in
     record {
       value = sym taken.1;
       state = taken.0;
       after = e.after;
-      same_room = e.same-room;
+      same_room = e.same_room;
       untouched = e.untouched;
       stands = λ text text_label it. cut_step f b s bs text text_label laws it n (Ok tt) (sym taken.1) _ _ taken.0 e.after;
     }

@@ -17,8 +17,8 @@ returns g c =
     let cipher = cipher_of f b key nonce in
     let laws : length key ≡ 16 → length nonce ≡ 13 → Lawful cipher =
     λ hk hn. lawful f b g.met.K.Permutation.inverse key nonce (hk, λ i h. search rules) (hn, λ i h. search rules) in
-    let blocks : Blocks bs = λ i h. ((g.R.ReadBlocks.bounded c.args.h.now).whole i h, λ j l. c.opened-sheet.ensures.bytes i j) in
-    let e = c.opened-sheet.ensures.value in
+    let blocks : Blocks bs = λ i h. ((g.R.ReadBlocks.bounded c.args.h.now).whole i h, λ j l. c.opened_sheet.ensures.bytes i j) in
+    let e = c.opened_sheet.ensures.value in
     record {
       value = e;
       exactly = subst (λ r. OpensExactly cipher key nonce label tag bs r) (sym e) (opens_exactly cipher key nonce label tag bs laws blocks);

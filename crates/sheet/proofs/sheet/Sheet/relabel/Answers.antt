@@ -12,8 +12,8 @@ returns g c =
     let s = c.args.self.now.state in
     let cipher = under f b s in
     let new = c.args.label.now in
-    let e = c.in-ok-state.ensures in
-    let taken = answer_ok (relabel_claims new) (relabelled cipher s new) c.in-ok-state.state (tt {0}) (sym e) in
+    let e = c.in_ok-state.ensures in
+    let taken = answer_ok (relabel_claims new) (relabelled cipher s new) c.in_ok-state.state (tt {0}) (sym e) in
     record {
       value = sym taken.1;
       state = taken.0;

@@ -17,12 +17,12 @@ returns g c =
     let laws : length key ≡ 16 → length nonce ≡ 13 → Lawful cipher =
     λ hk hn. lawful f b g.met.K.Permutation.inverse key nonce (hk, λ i h. search rules) (hn, λ i h. search rules) in
     let bytes : AllBytes text = λ i. search rules in
-    let e = c.in-ok-state.ensures in
-    let again = reopens cipher key nonce label text (g.H.ReadBlocks.room c.args.h.now) (g.H.ReadBlocks.list c.args.h.now) laws bytes c.in-ok-state.state e.value in
+    let e = c.in_ok-state.ensures in
+    let again = reopens cipher key nonce label text (g.H.ReadBlocks.room c.args.h.now) (g.H.ReadBlocks.list c.args.h.now) laws bytes c.in_ok-state.state e.value in
     record {
       value = e.value;
       after = e.after;
-      same_room = e.same-room;
+      same_room = e.same_room;
       untouched = e.untouched;
-      reopens = subst (λ bs. Reopens cipher key nonce label text bs c.in-ok-state.state) (sym e.after) again;
+      reopens = subst (λ bs. Reopens cipher key nonce label text bs c.in_ok-state.state) (sym e.after) again;
     }
