@@ -1,8 +1,8 @@
 -- Sealing some blocks anew makes the altered list, and the sum changes by what these blocks add.
-use Rattle.std.proofs.Common.{◌≡◌, ℕ, zero, suc, ◌+◌, ◌-◌, ◌*◌, ◌/◌, ◌%◌, ◌<◌, ◌≤◌, min, max, true, false, cond, ◌&&◌, eqb, ltb, leb, ◌⊎◌, List, [], length, get_or, take, replicate, sym, refl, ap, ◌∙◌, ap₂, inl, inr, add-one, arith}
+use Rattle.std.proofs.Common.{◌≡◌, ℕ, zero, suc, ◌+◌, ◌-◌, ◌*◌, ◌/◌, ◌%◌, ◌<◌, ◌≤◌, false, cond, ◌&&◌, eqb, ltb, leb, ◌⊎◌, List, [], length, get_or, take, replicate, sym, ap, ◌∙◌, ap₂, inl, inr, arith}
 use Rattle.std.proofs.lemmas.List.FromFn.{length-map-range_with_len, get_or-map-range_with_len}
 use Rattle.std.proofs.lemmas.List.{ext_get_or, length-take, get_or-take, get_or-replicate}
-use Rattle.std.proofs.lemmas.Bool.{cases_lt, cases_Bool, cond-true, cond-false, lt-ltb, le-ltb, le-leb, lt-leb, eq-eqb, ne_eqb, and_from, and_left, and_right}
+use Rattle.std.proofs.lemmas.Bool.{cases_lt, cond-true, cond-false, lt-ltb, le-ltb, le-leb, lt-leb, ne_eqb, and_from, and_left, and_right}
 use lib.Bits.{bit_xor, xor_zero_r}
 use Rattle.permutation.specs.Blocks.{◌⊕◌}
 use Rattle.permutation.specs.BlockLaws.{same_entries, length_xors, xors_at, xors_comm, xors_assoc, xors_cancel, xors_swap}
@@ -10,14 +10,14 @@ use Rattle.modes.specs.declared.cipher.Usage.TheVariants.{Text}
 use Rattle.modes.specs.Cipher.{base, masked}
 use Rattle.modes.specs.Masks.{times, step}
 use Rattle.modes.specs.Sums.{block_at, xor_to}
-use Rattle.modes.specs.SumLaws.{xor_to_more, xor_to_same, length_xor_to}
+use Rattle.modes.specs.SumLaws.{xor_to_same, length_xor_to}
 use Rattle.sheet.specs.Holders.{block}
 use Rattle.sheet.specs.declared.state.State.{State}
 use Rattle.sheet.specs.Calls.{under}
 use Rattle.sheet.specs.Ciphers.{Cipher}
 use Rattle.sheet.specs.Edits.{Edit, altered_block, altered, edited, restated, text_in}
-use Rattle.sheet.specs.Laying.{laid_block, laid_text, plain_in, resealed, odd_from, Resealed, part_adds, part_total, laid_edit, Workable}
-use Rattle.sheet.specs.Sealing.{blocks_in, adds, total, opened}
+use Rattle.sheet.specs.Laying.{plain_in, resealed, odd_from, Resealed, part_adds, part_total, laid_edit, Workable}
+use Rattle.sheet.specs.Sealing.{blocks_in, adds, total}
 use Rattle.sheet.proofs.Layings.{length_laid, laid_is_block}
 use Rattle.sheet.proofs.Texts.{block_place, length_opened, opened_at}
 

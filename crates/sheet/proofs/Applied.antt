@@ -1,5 +1,5 @@
 -- The calls that edit, as edits that are worked in place, and where they change nothing.
-use Rattle.std.proofs.Common.{◌≡◌, ℕ, ◌+◌, ◌-◌, ◌/◌, ◌<◌, ◌≤◌, cond, eqb, ◌⊎◌, List, [], length, get_or, Ok, sym, refl, ap, ◌∙◌, ap₂, inl, inr, arith}
+use Rattle.std.proofs.Common.{◌≡◌, ℕ, ◌+◌, ◌-◌, ◌/◌, ◌<◌, ◌≤◌, eqb, ◌⊎◌, List, [], length, Ok, sym, refl, ap, ◌∙◌, ap₂, inl, inr, arith}
 use Rattle.std.proofs.lemmas.List.{ext_get_or}
 use Rattle.std.proofs.lemmas.Bool.{cases_lt, cond-true, cond-false, eq-eqb, ne_eqb}
 use Rattle.permutation.specs.Blocks.{◌⊕◌}
@@ -8,7 +8,7 @@ use Rattle.modes.specs.Refusals.{Claim, answer}
 use Rattle.modes.specs.RefusalLaws.{answer_ok}
 use Rattle.sheet.specs.declared.state.State.{State}
 use Rattle.sheet.specs.Ciphers.{Cipher}
-use Rattle.sheet.specs.Edits.{Edit, edit, altered, edited, restated, text_in, lengthened, write_edit, append_edit, cut_edit}
+use Rattle.sheet.specs.Edits.{Edit, edit, altered, edited, restated, text_in, write_edit, append_edit, cut_edit}
 use Rattle.sheet.specs.Laying.{laid_text, laid_edit}
 use Rattle.sheet.specs.Sealing.{blocks_in, total}
 use Rattle.sheet.proofs.Altering.{length_altered, altered_outside}

@@ -1,24 +1,21 @@
 -- Opening takes what some text seals to, and that text is one.
-use Rattle.std.proofs.Common.{◌≡◌, ℕ, ◌+◌, ◌-◌, ◌*◌, ◌/◌, ◌%◌, ◌<◌, ◌≤◌, true, false, not, ◌||◌, eqb, ltb, ◌⊎◌, List, [], ◌∷◌, length, get_or, is_some, Some, None, Ok, Option, Result, unwrap_or, sym, refl, ap, ◌∙◌, subst, ap₂, inl, inr, arith}
+use Rattle.std.proofs.Common.{◌≡◌, ℕ, ◌+◌, ◌-◌, ◌*◌, ◌/◌, ◌%◌, ◌<◌, ◌≤◌, true, false, ◌||◌, eqb, ltb, ◌⊎◌, List, [], ◌∷◌, length, get_or, is_some, Some, None, Ok, Option, unwrap_or, sym, refl, ap, ◌∙◌, ap₂, inl, inr, arith}
 use Rattle.std.proofs.lemmas.List.{get_or_past}
 use Rattle.std.proofs.lemmas.Bool.{cases_lt, cases_order, eq-eqb, eqb-true, le-ltb, ltb-false, ne_eqb, eqb-false, not_from_true, not-false, or_from, or_parts}
 use Rattle.permutation.specs.Blocks.{Block}
 use Rattle.permutation.specs.BlockLaws.{same_entries}
-use Rattle.modes.specs.declared.refusal.Refusal.{Refusal}
 use Rattle.modes.specs.Keys.{bad_key, bad_nonce, bad_tag}
 use Rattle.modes.specs.PlateLaws.{same_true, true_same}
-use Rattle.modes.specs.Refusals.{Claim, answer}
 use Rattle.modes.specs.RefusalLaws.{answer_ok, taken_rest, taken_more}
 use Rattle.modes.specs.Sums.{padded_at, block_at, same, too_long}
 use Rattle.modes.specs.SumLaws.{length_block_at, padded_inside, padded_end, padded_past}
 use Rattle.sheet.specs.declared.state.State.{State}
-use Rattle.sheet.specs.Calls.{no_blocks, wrong_tag, bad_padding, state_with, last_plain, found_length, open_claims, open_answer}
+use Rattle.sheet.specs.Calls.{no_blocks, wrong_tag, bad_padding, state_with, last_plain, found_length, open_answer}
 use Rattle.sheet.specs.Ciphers.{Cipher, Lawful}
-use Rattle.sheet.specs.Holders.{block}
 use Rattle.sheet.specs.Opening.{AllBytes, sealed_state, Seals, OpensExactly}
-use Rattle.sheet.specs.Sealing.{blocks_in, sealed, tag_of, sum_of, opened, text_end, Ends}
+use Rattle.sheet.specs.Sealing.{blocks_in, sealed, tag_of, opened, text_end, Ends}
 use Rattle.sheet.proofs.Ending.{end_ends, ends_end}
-use Rattle.sheet.proofs.Texts.{block_byte, length_sealed, is_sealed, length_opened, opened_at, dec_sealed, opened_sealed, block_place}
+use Rattle.sheet.proofs.Texts.{block_byte, length_sealed, is_sealed, length_opened, opened_at, dec_sealed, opened_sealed}
 
 -- each entry of the list is a block
 abbrev pub Blocks : List (List ℕ) → Type 0

@@ -1,8 +1,8 @@
 -- What was sealed is opened again, and reads as the text.
-use Rattle.std.proofs.Common.{◌≡◌, ℕ, List, length, Ok, sym, refl, ap, ◌∙◌, subst}
+use Rattle.std.proofs.Common.{◌≡◌, ℕ, List, length, Ok, sym, refl, ap, ◌∙◌}
 use Rattle.modes.specs.RefusalLaws.{answer_ok}
 use Rattle.sheet.specs.declared.state.State.{State}
-use Rattle.sheet.specs.Calls.{seal_claims, seal_answer, open_answer, tag_answer}
+use Rattle.sheet.specs.Calls.{seal_claims, seal_answer, tag_answer}
 use Rattle.sheet.specs.Ciphers.{Cipher, Lawful}
 use Rattle.sheet.specs.Opening.{AllBytes, sealed_state, Seals, Reopens}
 use Rattle.sheet.specs.Sealing.{sealed, sum_of, opened}

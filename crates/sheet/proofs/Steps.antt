@@ -1,25 +1,25 @@
 -- A sheet that stands for a text and a label stands for the edited ones after an edit.
-use Rattle.std.proofs.Common.{◌≡◌, ℕ, ◌+◌, ◌-◌, ◌*◌, ◌/◌, ◌%◌, ◌<◌, ◌≤◌, max, true, false, cond, ◌⊎◌, List, [], ◌∷◌, ◌++◌, length, get_or, take, drop, is_ok, Ok, Err, Result, sym, refl, ap, ◌∙◌, subst, ap₂, inl, inr, arith}
+use Rattle.std.proofs.Common.{◌≡◌, ℕ, ◌+◌, ◌-◌, ◌*◌, ◌/◌, ◌<◌, ◌≤◌, cond, ◌⊎◌, List, [], length, get_or, is_ok, Ok, Err, Result, sym, refl, ap, ◌∙◌, subst, ap₂, inl, inr, arith}
 use Rattle.std.proofs.lemmas.List.{length-append, get_or_past, take_all}
-use Rattle.std.proofs.lemmas.Bool.{cases_lt, cases_order, cases_eq, ltb-false}
-use Rattle.permutation.specs.Blocks.{Inverse, ◌⊕◌}
+use Rattle.std.proofs.lemmas.Bool.{cases_lt, cases_order, ltb-false}
+use Rattle.permutation.specs.Blocks.{◌⊕◌}
 use Rattle.permutation.specs.BlockLaws.{same_entries, xors_comm}
 use Rattle.modes.specs.declared.refusal.Refusal.{Refusal}
 use Rattle.modes.specs.Refusals.{answer}
 use Rattle.modes.specs.RefusalLaws.{taken_rest}
-use Rattle.modes.specs.Sums.{padded_at, block_at, too_long, xor_to}
-use Rattle.modes.specs.SumLaws.{length_block_at, padded_inside, padded_end, padded_past, length_xor_to}
+use Rattle.modes.specs.Sums.{padded_at, block_at, too_long}
+use Rattle.modes.specs.SumLaws.{length_block_at, padded_inside, padded_end, padded_past}
 use Rattle.sheet.specs.declared.state.State.{State}
-use Rattle.sheet.specs.Calls.{under, tag_answer}
+use Rattle.sheet.specs.Calls.{under}
 use Rattle.sheet.specs.Ciphers.{Cipher, Lawful}
 use Rattle.sheet.specs.Edits.{Edit, altered, edited, restated, overwritten, lengthened, shortened, write_edit, append_edit, cut_edit, text_in, write_claims, append_claims, cut_claims, relabel_claims, written, written_blocks, appended, appended_blocks, cut_back, cut_blocks, relabelled}
 use Rattle.sheet.specs.Laying.{laid_text}
-use Rattle.sheet.specs.Opening.{AllBytes, Seals, sealed_state}
-use Rattle.sheet.specs.Sealing.{blocks_in, sealed, total, sum_of, tag_of, opened}
+use Rattle.sheet.specs.Opening.{AllBytes}
+use Rattle.sheet.specs.Sealing.{blocks_in, sealed, total, sum_of, opened}
 use Rattle.sheet.specs.Standing.{Stands}
 use Rattle.sheet.proofs.Altering.{xor_back, xor_front, length_altered, altered_inside, altered_outside}
-use Rattle.sheet.proofs.Applied.{edit_none, edit_some, edit_path}
-use Rattle.sheet.proofs.Claims.{range_found, append_found, cut_found}
+use Rattle.sheet.proofs.Applied.{edit_some, edit_path}
+use Rattle.sheet.proofs.Claims.{range_found, append_found}
 use Rattle.sheet.proofs.Layings.{length_laid, laid_inside, laid_outside, length_overwritten, overwritten_laid, lengthened_laid, length_shortened, shortened_laid}
 use Rattle.sheet.proofs.Texts.{block_byte, is_sealed, sealed_at, length_sealed, opened_sealed}
 

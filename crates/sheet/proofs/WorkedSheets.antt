@@ -1,13 +1,12 @@
 -- The worked values, computed, and the two refusals that belong to them.
-use Rattle.std.proofs.Common.{◌≡◌, ℕ, zero, suc, ◌+◌, ◌-◌, ◌<◌, ◌≤◌, true, not, ◌||◌, eqb, ltb, ◌⊎◌, List, [], ◌∷◌, length, get_or, is_some, None, Err, sym, refl, ap, ◌∙◌, inl, inr, arith}
+use Rattle.std.proofs.Common.{◌≡◌, ℕ, zero, suc, ◌+◌, ◌-◌, ◌<◌, ◌≤◌, not, eqb, ltb, ◌⊎◌, List, [], ◌∷◌, length, get_or, is_some, None, Err, refl, ap, ◌∙◌, inl, inr, arith}
 use Rattle.std.proofs.lemmas.Bool.{cases_lt, cond-true, eq-eqb, ne_eqb, lt-ltb, le-ltb, not_from_true, not_from_false, or_from}
 use Rattle.permutation.specs.Blocks.{xors}
-use Rattle.permutation.specs.Minalpher.{forward, backward, rounds, rounds_back, round}
+use Rattle.permutation.specs.Minalpher.{forward, rounds, round}
 use Rattle.modes.specs.Cipher.{base, masked}
 use Rattle.modes.specs.Keys.{bad_key, bad_nonce, bad_tag}
 use Rattle.modes.specs.Masks.{step, turn}
 use Rattle.modes.specs.PlateLaws.{true_same}
-use Rattle.modes.specs.Refusals.{answer}
 use Rattle.modes.specs.RefusalLaws.{taken_more}
 use Rattle.modes.specs.Sums.{block_at, xor_to, same, too_long}
 use Rattle.modes.specs.Sums as sums

@@ -1,5 +1,5 @@
 -- What each call of a sheet answers, and what it leaves.
-use Rattle.std.specs.Prelude.{◌≡◌, ℕ, ◌+◌, ◌-◌, ◌*◌, ◌/◌, ◌<◌, ◌≤◌, Bool, cond, not, ◌||◌, List, [], ◌∷◌, length, take, drop, is_some, Result, ◌==◌, nat_lt}
+use Rattle.std.specs.Prelude.{ℕ, ◌+◌, ◌-◌, ◌*◌, not, ◌||◌, List, [], ◌∷◌, length, take, drop, is_some, Result, ◌==◌, nat_lt}
 use Rattle.std.specs.Option.{unwrap_or}
 use Rattle.modes.specs.declared.refusal.Layer.TheVariants.{Sheet}
 use Rattle.modes.specs.declared.refusal.Reason.TheVariants.{TextLength, BlockCount, Range, Limit, TagMismatch, Padding}

@@ -1,5 +1,5 @@
 -- Block holders: a list of blocks and a limit, and what each call answers and leaves.
-use Rattle.std.specs.Prelude.{◌≡◌, ℕ, ◌-◌, ◌<◌, ◌≤◌, cond, not, ◌||◌, List, [], ◌∷◌, ◌++◌, length, take, Result, ◌==◌, nat_le, nat_lt, slice_index, slice_index_or, slice_set}
+use Rattle.std.specs.Prelude.{◌≡◌, ℕ, ◌-◌, ◌<◌, ◌≤◌, not, ◌||◌, List, [], ◌∷◌, ◌++◌, length, take, Result, ◌==◌, nat_le, nat_lt, slice_index, slice_index_or, slice_set}
 use Rattle.modes.specs.declared.refusal.Layer.TheVariants.{Holder}
 use Rattle.modes.specs.declared.refusal.Reason.TheVariants.{BufferLength, NoSuchBlock, Limit}
 use Rattle.modes.specs.declared.refusal.Refusal.{Refusal}

@@ -1,5 +1,6 @@
 // Sheets of text, sealed block by block into a holder.
 #![tactic(auto)]
+
 pub mod calls;
 mod carried;
 mod changing;

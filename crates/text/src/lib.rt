@@ -1,4 +1,5 @@
 // Bytes and refusals as text, for the programs.
 #![tactic(auto)]
+
 pub mod hex;
 pub mod words;

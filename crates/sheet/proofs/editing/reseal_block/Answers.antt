@@ -1,4 +1,4 @@
-use Rattle.std.proofs.Common.{◌≡◌, ap, ◌∙◌, arith}
+use Rattle.std.proofs.Common.{ap, ◌∙◌, arith}
 use Rattle.modes.specs.Cipher.{masked}
 use Rattle.sheet.proofs.Partials.{put_resealed, add_resealed}
 use Rattle.sheet.proofs.editing.reseal_block.Goals as goal

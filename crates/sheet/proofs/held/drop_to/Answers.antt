@@ -25,9 +25,9 @@ pub loop-k-preserved : goal.loop-k-preserved
 loop-k-preserved g c =
     let bs = g.H.ReadBlocks.list c.args.h.now in
     let all = c.count-k-end.ensures.value in
-    let low = c.loop-k.auto.-k in
+    let low = c.loop-k.auto._k in
     let e = c.drop_last.ensures in (
-      one_less bs (g.H.ReadBlocks.list c.loop-k.h) _ (length bs + c.args.count - c.loop-k.-k) _ c.drop_last.result
+      one_less bs (g.H.ReadBlocks.list c.loop-k.h) _ (length bs + c.args.count - c.loop-k._k) _ c.drop_last.result
           c.loop-k.invariant.0 (omega arith) (omega arith) (omega arith) e.value e.after,
       e.same_room ∙ c.loop-k.invariant.1,
     )
@@ -37,6 +37,6 @@ returns g c =
     let bs = g.H.ReadBlocks.list c.args.h.now in
     let all = c.count-k-end.ensures.value in
     let within = c.requires in
-    let high = c.loop-k.auto.-k_end (omega arith) in
-    let left : length bs + c.args.count - c.loop-k.-k ≡ c.args.count = omega arith in
+    let high = c.loop-k.auto._k-end (omega arith) in
+    let left : length bs + c.args.count - c.loop-k._k ≡ c.args.count = omega arith in
     record { after = c.loop-k.invariant.0 ∙ ap (λ m. take m bs) left; same_room = c.loop-k.invariant.1 }

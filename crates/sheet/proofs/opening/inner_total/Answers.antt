@@ -1,4 +1,4 @@
-use Rattle.std.proofs.Common.{◌≡◌, ◌+◌, ◌*◌, sym, refl, ap, ◌∙◌, rules}
+use Rattle.std.proofs.Common.{◌+◌, ◌*◌, sym, refl, ap, ◌∙◌}
 use Rattle.permutation.specs.Blocks.{◌⊕◌}
 use Rattle.modes.specs.Cipher.{masked}
 use Rattle.modes.specs.Masks.{times, step}

@@ -1,4 +1,4 @@
-use Rattle.std.proofs.Common.{◌≡◌, ℕ, ◌+◌, ◌-◌, ◌*◌, List, length, take, sym, ap, ◌∙◌, ap₂, arith, rules}
+use Rattle.std.proofs.Common.{◌≡◌, ◌+◌, ◌-◌, ◌*◌, length, take, sym, ap, ◌∙◌, arith}
 use Rattle.permutation.specs.Blocks.{◌⊕◌}
 use Rattle.modes.specs.Cipher.{masked}
 use Rattle.modes.specs.Masks.{times, step, turn}
@@ -6,7 +6,7 @@ use Rattle.modes.specs.Sums.{xor_to, label_sum}
 use Rattle.sheet.specs.Ciphers.{cipher_of, enc_at, fin_at}
 use Rattle.sheet.specs.Holders.{block}
 use Rattle.sheet.specs.Holding.{block_adds}
-use Rattle.sheet.specs.Sealing.{sum_of, total}
+use Rattle.sheet.specs.Sealing.{sum_of}
 use Rattle.sheet.proofs.Masking.{odd_mask}
 use Rattle.sheet.proofs.Totals.{total_last}
 use Rattle.sheet.proofs.opening.summed.Goals as goal

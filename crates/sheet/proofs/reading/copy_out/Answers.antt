@@ -1,10 +1,8 @@
-use Rattle.std.proofs.Common.{◌≡◌, ℕ, ◌+◌, ◌-◌, ◌*◌, ◌/◌, ◌%◌, ◌<◌, ◌≤◌, ◌⊎◌, length, get_or, ap, ◌∙◌, ap₂, inl, inr, ⊎_elim, arith, rules}
+use Rattle.std.proofs.Common.{◌≡◌, ◌+◌, ◌-◌, ◌*◌, ◌/◌, ◌%◌, ◌<◌, ◌≤◌, length, get_or, ap, ◌∙◌, ap₂, ⊎_elim, arith, rules}
 use Rattle.std.proofs.lemmas.Bool.{cases_lt}
 use Rattle.modes.specs.Cipher.{masked}
-use Rattle.modes.specs.Masks.{times, step}
 use Rattle.sheet.specs.Ciphers.{enc_at}
 use Rattle.sheet.specs.Holders.{block}
-use Rattle.sheet.specs.Holding.{opened_byte}
 use Rattle.sheet.proofs.Masking.{odd_mask, even_mask}
 use Rattle.sheet.proofs.reading.copy_out.Goals as goal
 

@@ -1,10 +1,9 @@
-use Rattle.std.proofs.Common.{◌≡◌, ℕ, ◌+◌, ◌-◌, ◌*◌, ◌/◌, ◌<◌, List, [], ◌∷◌, ◌++◌, map, length, drop, sym, ap, ◌∙◌, arith, rules}
+use Rattle.std.proofs.Common.{◌≡◌, ◌+◌, ◌-◌, ◌*◌, ◌/◌, [], ◌∷◌, ◌++◌, map, length, drop, sym, ap, ◌∙◌, arith}
 use Rattle.std.proofs.lemmas.List.FromFn.{length-map-range_with_len, map-range_with_len_more}
 use Rattle.std.proofs.lemmas.List.{take_rest}
 use Rattle.std.specs.List.{range_with_len}
 use Rattle.permutation.specs.Blocks.{◌⊕◌}
-use Rattle.modes.specs.declared.cipher.Usage.TheVariants.{Text}
-use Rattle.modes.specs.Cipher.{base, masked}
+use Rattle.modes.specs.Cipher.{masked}
 use Rattle.modes.specs.Masks.{times, step}
 use Rattle.modes.specs.Sums.{block_at, xor_to}
 use Rattle.modes.specs.SumLaws.{block_at_drop}

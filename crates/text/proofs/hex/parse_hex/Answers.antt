@@ -13,5 +13,5 @@ loop-k-preserved c =
     let byte = rw long at (places.1 0 (ap is_ok c.in_ok-push.was)) in (
       search rules,
       below_more _ _ (λ i h. rw (places.0 i 0 (rw long h)) (c.loop-k.invariant.1 i h))
-          (makes (get_or text (2 * k) 0) (get_or text (2 * k + 1) 0) _ _ _ byte low.refused high.0 low.0),
+          (makes (get_or text (2 * k) 0) (get_or text (2 * k + 1) 0) _ _ _ byte low.refused high.cases low.cases),
     )

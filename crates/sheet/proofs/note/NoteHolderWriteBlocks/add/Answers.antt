@@ -3,7 +3,7 @@ use Rattle.sheet.specs.Holders.{add_answer}
 use Rattle.sheet.specs.Notes.{noted, beyond, room_beyond}
 use Rattle.sheet.proofs.Noting.{note_there, note_made, added}
 use Rattle.sheet.proofs.note.NoteHolderWriteBlocks.add.Goals as goal
-use Rattle.sheet.proofs.note.NoteHolderWriteBlocks.add.Goals.{then_count_eq0+in_ok_add, else_count_eq0}
+use Rattle.sheet.proofs.note.NoteHolderWriteBlocks.add.Goals.{then-count-eq0+in_ok-add, else-count-eq0}
 
 pub returns : goal.returns
 returns g c =
@@ -13,11 +13,11 @@ returns g c =
     let below = m.list old in
     let made : (m.room mid ≡ m.room old) × (m.list mid ≡ noted below ++ beyond below) =
     elim c.if-count-eq0.branch [
-      | then_count_eq0+in_ok_add w ↦
+      | then-count-eq0+in_ok-add w ↦
           let is : mid ≡ w.add.new.self = ap (λ h. h.below) w.self-is in
           let e = w.in_ok-add.ensures in
           (ap m.room is ∙ e.same_room, note_made below (m.list mid) (omega arith) (ap m.list is ∙ e.after))
-      | else_count_eq0 w ↦
+      | else-count-eq0 w ↦
           let is : mid ≡ old = ap (λ h. h.below) w.self-is in
           (ap m.room is, ap m.list is ∙ note_there below (omega arith))
     ] in

@@ -1,4 +1,4 @@
-use Rattle.std.proofs.Common.{◌≡◌, List, length, sym, subst, rules}
+use Rattle.std.proofs.Common.{◌≡◌, length, sym, subst, rules}
 use Rattle.sheet.specs.Ciphers.{cipher_of, Lawful}
 use Rattle.sheet.specs.Opening.{OpensExactly}
 use Rattle.sheet.proofs.Laws.{lawful}

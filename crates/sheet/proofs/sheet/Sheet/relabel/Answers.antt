@@ -1,4 +1,4 @@
-use Rattle.std.proofs.Common.{◌≡◌, Ok, sym}
+use Rattle.std.proofs.Common.{Ok, sym}
 use Rattle.modes.specs.RefusalLaws.{answer_ok}
 use Rattle.sheet.specs.Calls.{under}
 use Rattle.sheet.specs.Edits.{relabel_claims, relabelled}
