@@ -8,6 +8,7 @@ use jobs::{Backward, Forward, Job, Opening, Plate, Sealing};
 use permutation::Permutation;
 use permutation::minalpher::Minalpher;
 use permutation::words::RowWords;
+use std::process::ExitCode;
 use std::time::{Duration, Instant};
 
 // How long each item is measured, in milliseconds.
@@ -96,10 +97,17 @@ fn measure_kind<K: Permutation>(rt: &HostRuntime, kind: &str) -> Result<u8, Fail
     Ok(mixed)
 }
 
-fn main(rt: HostRuntime) -> Result<(), Failure> {
-    let matrices = measure_kind::<Minalpher>(&rt, "matrices")?;
-    let rows = measure_kind::<RowWords>(&rt, "rows")?;
+fn run(rt: &HostRuntime) -> Result<(), Failure> {
+    let matrices = measure_kind::<Minalpher>(rt, "matrices")?;
+    let rows = measure_kind::<RowWords>(rt, "rows")?;
     let mixed = matrices ^ rows;
     eprintln!(rt; "what all runs come to: {mixed}")?;
     Ok(())
+}
+
+fn main(rt: HostRuntime) -> ExitCode {
+    match run(&rt) {
+        Ok(()) => ExitCode::SUCCESS,
+        Err(_) => ExitCode::FAILURE,
+    }
 }

@@ -18,6 +18,7 @@ use permutation::Permutation;
 use permutation::minalpher::Minalpher;
 use permutation::words::RowWords;
 use std::env;
+use std::process::ExitCode;
 
 // The words after the program's own name.
 fn words(rt: &HostRuntime) -> Result<Vec<String>, Failure> {
@@ -44,10 +45,12 @@ fn run(rt: &HostRuntime) -> Result<(), Failure> {
     }
 }
 
-fn main(rt: HostRuntime) -> Result<(), Failure> {
-    let result = run(&rt);
-    if let Err(failure) = &result {
-        eprintln!(rt; "vestmortar: {failure}")?;
+fn main(rt: HostRuntime) -> ExitCode {
+    match run(&rt) {
+        Ok(()) => ExitCode::SUCCESS,
+        Err(failure) => {
+            let _ = eprintln!(rt; "vestmortar: {failure}");
+            ExitCode::FAILURE
+        }
     }
-    result
 }
