@@ -70,29 +70,29 @@ module _ (b : Bor (List ℕ)) (start marked labelled counted : Reader) (label co
 
   module _ (w : Walk) where
     at_start : start ≡ reader b 0
-    at_start = ap₂ reader w.start-bytes w.start-place
+    at_start = ap₂ reader w.start_bytes w.start_place
 
     at_mark : marked ≡ reader b 2
-    at_mark = w.mark-read ∙ ap (λ r. moved r 2) at_start
+    at_mark = w.mark_read ∙ ap (λ r. moved r 2) at_start
 
     at_label : labelled ≡ reader b (count_place b.now)
-    at_label = w.label-read ∙ ap (λ r. moved r (taken_of (number_in (rest_of r)))) at_mark
+    at_label = w.label_read ∙ ap (λ r. moved r (taken_of (number_in (rest_of r)))) at_mark
 
     at_count : counted ≡ reader b (nonce_place b.now)
-    at_count = w.count-read ∙ ap (λ r. moved r (taken_of (number_in (rest_of r)))) at_label
+    at_count = w.count_read ∙ ap (λ r. moved r (taken_of (number_in (rest_of r)))) at_label
 
     pub has_mark : same (take 2 b.now) mark ≡ true
-    has_mark = subst (λ r. same (take 2 (rest_of r)) mark ≡ true) at_start w.mark-there
+    has_mark = subst (λ r. same (take 2 (rest_of r)) mark ≡ true) at_start w.mark_there
 
     pub has_label : (label ≡ label_size b.now) × (outside 0 4096 (number_at b.now 2) ≡ false)
     has_label =
         number_taken 0 4096 b.now 2 label
-        (subst (λ r. Ok label ≡ answer (bad_number 0 4096 r.bytes.now r.place ∷ []) (value_of (number_in (rest_of r)))) at_mark w.label-found)
+        (subst (λ r. Ok label ≡ answer (bad_number 0 4096 r.bytes.now r.place ∷ []) (value_of (number_in (rest_of r)))) at_mark w.label_found)
 
     pub has_count : (count ≡ block_count b.now) × (outside 1 4096 (number_at b.now (count_place b.now)) ≡ false)
     has_count =
         number_taken 1 4096 b.now (count_place b.now) count
-        (subst (λ r. Ok count ≡ answer (bad_number 1 4096 r.bytes.now r.place ∷ []) (value_of (number_in (rest_of r)))) at_label w.count-found)
+        (subst (λ r. Ok count ≡ answer (bad_number 1 4096 r.bytes.now r.place ∷ []) (value_of (number_in (rest_of r)))) at_label w.count_found)
 
     pub place_is : counted.place ≡ nonce_place b.now
     place_is = ap (λ r. r.place) at_count
@@ -129,23 +129,23 @@ module _ (b : Bor (List ℕ)) (start marked labelled counted : Reader) (label co
 
         module _ (q : Parted) where
           at_nonce : nonced ≡ reader b (nonce_place b.now + 13)
-          at_nonce = next counted nonced 13 (nonce_place b.now) nonce.now at_count q.nonce-is q.nonce-read (omega (arith, told_is))
+          at_nonce = next counted nonced 13 (nonce_place b.now) nonce.now at_count q.nonce_is q.nonce_read (omega (arith, told_is))
 
           at_name : named ≡ reader b (nonce_place b.now + 13 + label)
           at_name =
-              next nonced named label (nonce_place b.now + 13) name.now at_nonce q.name-is q.name-read
+              next nonced named label (nonce_place b.now + 13) name.now at_nonce q.name_is q.name_read
               (omega (arith, told_is, has_label.0))
 
           at_blocks : blocked ≡ reader b (nonce_place b.now + 13 + label + 32 * count)
           at_blocks =
-              next named blocked (32 * count) (nonce_place b.now + 13 + label) blocks.now at_name q.blocks_are q.blocks-read
+              next named blocked (32 * count) (nonce_place b.now + 13 + label) blocks.now at_name q.blocks_are q.blocks_read
               (omega (arith, told_is, has_label.0, has_count.0))
 
           pub fields_are : record { nonce = nonce.now; label = name.now; blocks = blocks.now; tag = tag.now } ≡ fields_in b.now
           fields_are =
-              let a : nonce.now ≡ take 13 (drop (nonce_place b.now) b.now) = q.nonce-is ∙ ap (λ r. take 13 (rest_of r)) at_count in
+              let a : nonce.now ≡ take 13 (drop (nonce_place b.now) b.now) = q.nonce_is ∙ ap (λ r. take 13 (rest_of r)) at_count in
               let l : name.now ≡ take (label_size b.now) (drop (nonce_place b.now + 13) b.now) =
-              q.name-is ∙ ap (λ r. take label (rest_of r)) at_nonce ∙ ap (λ n. take n (drop (nonce_place b.now + 13) b.now)) has_label.0 in
+              q.name_is ∙ ap (λ r. take label (rest_of r)) at_nonce ∙ ap (λ n. take n (drop (nonce_place b.now + 13) b.now)) has_label.0 in
               let k : blocks.now ≡ take (32 * block_count b.now) (drop (nonce_place b.now + 13 + label_size b.now) b.now) =
               q.blocks_are ∙ ap (λ r. take (32 * count) (rest_of r)) at_name
               ∙ ap₂ (λ n m. take (32 * m) (drop (nonce_place b.now + 13 + n) b.now)) has_label.0 has_count.0 in

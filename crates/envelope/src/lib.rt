@@ -1,5 +1,6 @@
 // Envelopes: a sheet as one string of bytes, sent and received.
 #![tactic(auto)]
+
 pub mod number;
 pub mod parts;
 pub mod reader;

@@ -1,9 +1,9 @@
 use Rattle.std.proofs.Common.{◌≡◌, ◌+◌, ◌*◌, length, arith, rules}
 use Rattle.envelope.proofs.Walking.{Walk, place_small, label_small, count_small, answered}
 use Rattle.envelope.proofs.parts.parts_of.Goals as goal
-use Rattle.envelope.proofs.parts.parts_of.Goals.{AfterPlace}
+use Rattle.envelope.proofs.parts.parts_of.Goals.{After-place}
 
-walked : (c : AfterPlace) → Walk c.args.bytes c.new-reader.result c.mark.new.self c.number_within.new.self c.number_within-2.new.self c.in_ok-label.label c.in_ok-count.count
+walked : (c : After-place) → Walk c.args.bytes c.new-reader.result c.mark.new.self c.number_within.new.self c.number_within-2.new.self c.in_ok-label.label c.in_ok-count.count
 walked c = record {
   start_bytes = c.new-reader.ensures.bytes;
   start_place = c.new-reader.ensures.place;

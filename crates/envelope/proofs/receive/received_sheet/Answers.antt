@@ -19,7 +19,7 @@ returns-in-Err-parse g c =
     let b = g.K.Permutation.back in
     let key = c.args.key.now in
     let bytes = c.args.bytes.now in
-    let size = key_size key (key_of key) c.in-default.field-0 c.in-default.ensures in
+    let size = key_size key (key_of key) c.in_default.field-0 c.in_default.ensures in
     let h = c.in-Err-parse.ensures.value in
     record { value = parse_declined f b key bytes size c.in-Err-parse.refusal h; opens = parse_opens f b key bytes c.in-Err-parse.refusal h }
 

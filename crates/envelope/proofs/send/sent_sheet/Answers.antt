@@ -16,12 +16,12 @@ returns-then-out-size g c =
     let nonced : length s.nonce.bytes ≡ 13 = ap length (sym c.nonce-nonce.ensures) ∙ search rules in
     let counted : c.count-count.result ≡ blocks_in s.length = omega (arith, c.if-count-length.false, c.length.ensures) in
     let r =
-    ready forth back s bs (g.R.ReadBlocks.room h) label c.in_ok-own.own_val c.count-count.result c.envelope_length-size.result
+    ready forth back s bs (g.R.ReadBlocks.room h) label c.in_ok-own.own c.count-count.result c.envelope_length-size.result
     (g.R.ReadBlocks.bounded h) nonced c.in_ok-own.ensures c.count-count.ensures.value counted c.envelope_length-size.ensures in
     record {
       value =
           ap Err c.new-then-out-size.ensures
-          ∙ space_declined forth back s bs label (length c.args.out.now) r.short r.counted (omega (arith, c.if-out-size.true, r.size-is));
+          ∙ space_declined forth back s bs label (length c.args.out.now) r.short r.counted (omega (arith, c.if-out-size.true, r.size_is));
       after = refl;
       nonced = nonced;
     }
@@ -37,13 +37,13 @@ returns-then-not-own g c =
     let nonced : length s.nonce.bytes ≡ 13 = ap length (sym c.nonce-nonce.ensures) ∙ search rules in
     let counted : c.count-count.result ≡ blocks_in s.length = omega (arith, c.if-count-length.false, c.length.ensures) in
     let r =
-    ready forth back s bs (g.R.ReadBlocks.room h) label c.in_ok-own.own_val c.count-count.result c.envelope_length-size.result
+    ready forth back s bs (g.R.ReadBlocks.room h) label c.in_ok-own.own c.count-count.result c.envelope_length-size.result
     (g.R.ReadBlocks.bounded h) nonced c.in_ok-own.ensures c.count-count.ensures.value counted c.envelope_length-size.ensures in
     record {
       value =
           ap Err c.new-then-not-own.ensures
-          ∙ label_declined forth back s bs label (length c.args.out.now) r.short r.counted (omega (arith, c.if-out-size.false, r.size-is))
-          (sym r.own-is ∙ search rules);
+          ∙ label_declined forth back s bs label (length c.args.out.now) r.short r.counted (omega (arith, c.if-out-size.false, r.size_is))
+          (sym r.own_is ∙ search rules);
       after = refl;
       nonced = nonced;
     }
@@ -59,13 +59,13 @@ returns g c =
     let nonced : length s.nonce.bytes ≡ 13 = ap length (sym c.nonce-nonce.ensures) ∙ search rules in
     let counted : c.count-count.result ≡ blocks_in s.length = omega (arith, c.if-count-length.false, c.length.ensures) in
     let r =
-    ready forth back s bs (g.R.ReadBlocks.room h) label c.in_ok-own.own_val c.count-count.result c.envelope_length-size.result
+    ready forth back s bs (g.R.ReadBlocks.room h) label c.in_ok-own.own c.count-count.result c.envelope_length-size.result
     (g.R.ReadBlocks.bounded h) nonced c.in_ok-own.ensures c.count-count.ensures.value counted c.envelope_length-size.ensures in
     record {
       value =
-          ap Ok r.size-is
-          ∙ send_taken forth back s bs label (length c.args.out.now) r.short r.counted (omega (arith, c.if-out-size.false, r.size-is))
-          (sym r.own-is ∙ search rules);
+          ap Ok r.size_is
+          ∙ send_taken forth back s bs label (length c.args.out.now) r.short r.counted (omega (arith, c.if-out-size.false, r.size_is))
+          (sym r.own_is ∙ search rules);
       after = c.write_envelope.ensures ∙ ap₂ (λ n t. overlaid c.args.out.now (layout n label bs t)) c.nonce-nonce.ensures c.tag.ensures;
       nonced = nonced;
     }
