@@ -1,5 +1,6 @@
 // Measures the library. The times are on standard error: standard output is the same on every run.
 #![tactic(auto)]
+
 mod failure;
 mod jobs;
 

@@ -1,5 +1,6 @@
 // Answers cases, one a line, so that another program's answers can be compared with these.
 #![tactic(auto)]
+
 mod answer;
 mod case;
 mod holders;

@@ -1,5 +1,5 @@
 -- The options that a command's words give.
-use Rattle.std.specs.Prelude.{◌≡◌, Some, None, Ok, Err, Option, Result, String}
+use Rattle.std.specs.Prelude.{Some, None, Ok, Err, Option, Result, String}
 use Rattle.std.specs.declared.alloc.Global.{Global}
 use Rattle.vestmortar.specs.declared.failure.Flag.{Flag}
 use Rattle.vestmortar.specs.declared.failure.Flag.TheVariants.{Key, Tag, Nonce, Label, At, Bytes, Block}

@@ -1,5 +1,6 @@
 // Signs and checks plates from the command line, and works scripts with a sheet in memory.
 #![tactic(auto)]
+
 mod args;
 mod calls;
 mod failure;
