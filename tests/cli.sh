@@ -4,7 +4,7 @@
 #   tests/cli.sh NAME      one of them
 set -u
 cd "$(dirname "$0")/.." || exit 2
-program=$PWD/target/bin/vestmortar
+program=$PWD/crates/vestmortar/out/vestmortar
 work=$(mktemp -d)
 trap 'rm -rf "$work"' EXIT
 

@@ -1,13 +1,13 @@
 #!/bin/sh
 # Measures the proved kinds of permutation against the C versions beside this file, and prints the ratio of ours to C.
 # Both are compiled at -O3 by the clang of the kit that rt belongs to, where that is found. Three rounds of both are run,
-# one after the other, and the shortest time of each counts. First build the crate bench, by rt check bench.
+# one after the other, and the shortest time of each counts. First build the crate bench, by rt run in its folder.
 # CC and BENCH may name another compiler and another program.
 set -eu
 
 here=$(cd "$(dirname "$0")" && pwd)
-bench=${BENCH:-$here/../../target/bin/bench}
-[ -x "$bench" ] || { echo "compare: there is no $bench; run rt check bench" >&2; exit 2; }
+bench=${BENCH:-$here/../../crates/bench/out/bench}
+[ -x "$bench" ] || { echo "compare: there is no $bench; run rt run in crates/bench" >&2; exit 2; }
 kit=$(readlink -f "$(command -v rt || echo rt)")
 kit=${kit%/bin/rt}/toolchain/bin/clang
 [ -x "$kit" ] || kit=clang
