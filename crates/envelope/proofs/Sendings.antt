@@ -5,14 +5,14 @@ use Rattle.std.proofs.lemmas.Bool.{cond-true, eq-eqb, eqb-true, lt-ltb, le-ltb, 
 use Rattle.sheet.specs.Holders.{Bounded}
 use Rattle.modes.specs.declared.refusal.Refusal.{Refusal}
 use Rattle.modes.specs.declared.cipher.Usage.TheVariants.{Text}
-use Rattle.modes.specs.Cipher.{base, masked, tem_at}
+use Rattle.modes.specs.Cipher.{base}
+use Rattle.modes.specs.CipherLaws.{length_tem}
 use Rattle.modes.specs.Keys.{bad_key, bad_nonce, bad_tag, key_of, nonce_of}
 use Rattle.modes.specs.PlateLaws.{same_true}
 use Rattle.modes.specs.Refusals.{answer}
 use Rattle.modes.specs.RefusalLaws.{answer_ok, taken_rest, taken_more}
 use Rattle.modes.specs.Sums.{same, too_long, label_sum}
 use Rattle.permutation.specs.Blocks.{◌⊕◌}
-use Rattle.permutation.specs.BlockLaws.{length_xors}
 use Rattle.sheet.specs.declared.state.State.{State}
 use Rattle.sheet.specs.Calls.{miscounted, no_blocks, wrong_tag, bad_padding, last_plain, found_length, state_with, open_claims, open_answer, under}
 use Rattle.sheet.specs.Ciphers.{Cipher, cipher_of}
@@ -27,10 +27,6 @@ use Rattle.envelope.proofs.Numbering.{writes_exactly, few_groups}
 use Rattle.envelope.proofs.Receivings.{as_opened}
 
 -- a tag has 16 bytes
-length_tem : (f : List ℕ → List ℕ) (l : List ℕ) (i j : ℕ) (x : List ℕ) → length (tem_at f l i j x) ≡ 32
-unfolding masked
-length_tem f l i j x = length_xors 32 _ _
-
 length_tag : (forth back : List ℕ → List ℕ) (s : State) → length (own_tag forth back s) ≡ 16
 length_tag forth back s =
     simp length-take

@@ -3,7 +3,8 @@ ghost use Rattle.std.specs.Prelude.{◌≡◌, ◌+◌, ◌*◌, ◌<◌, ◌≤
 ghost use Rattle.sheet.specs.Holders.{block};
 ghost use Rattle.envelope.specs.Layouts.{joined, layout, layout_length};
 ghost use Rattle.envelope.specs.Numbers.{groups};
-ghost use Rattle.envelope.specs.Writing.{placed, overlaid};
+ghost use Rattle.sheet.specs.Edits.{overwritten};
+ghost use Rattle.envelope.specs.Writing.{overlaid};
 
 use crate::number::TOP;
 use crate::reader::MARK;
@@ -13,7 +14,7 @@ use sheet::holder::ReadBlocks;
 fn put(out: &mut [u8], at: usize, bytes: &[u8]) -> usize
     requires { at + length bytes.now ≤ length out.old }
     ensures end { result ≡ at + length bytes.now }
-    ensures after { out.new ≡ placed out.old at bytes.now }
+    ensures after { out.new ≡ overwritten out.old at bytes.now }
 {
     let end = at + bytes.len();
     out[at..end].copy_from_slice(bytes);
@@ -24,7 +25,7 @@ fn put(out: &mut [u8], at: usize, bytes: &[u8]) -> usize
 fn put_number(out: &mut [u8], at: usize, n: usize) -> usize
     requires { (n < 2097152) × (at + length (groups n) ≤ length out.old) }
     ensures end { result ≡ at + length (groups n) }
-    ensures after { out.new ≡ placed out.old at (groups n) }
+    ensures after { out.new ≡ overwritten out.old at (groups n) }
 {
     if n < TOP {
         put(out, at, &[n as u8])
@@ -51,7 +52,7 @@ fn held_block<R: ReadBlocks>(h: &R, k: usize) -> [u8; 32]
 fn put_blocks<R: ReadBlocks>(out: &mut [u8], at: usize, h: &R) -> usize
     requires { at + 32 * length (R.ReadBlocks.list h.now) ≤ length out.old }
     ensures end { result ≡ at + 32 * length (R.ReadBlocks.list h.now) }
-    ensures after { out.new ≡ placed out.old at (joined (R.ReadBlocks.list h.now)) }
+    ensures after { out.new ≡ overwritten out.old at (joined (R.ReadBlocks.list h.now)) }
 {
     let count = h.count();
     for k in 0..count {

@@ -5,10 +5,10 @@ use Rattle.std.proofs.Math.Path.{ap}
 use Rattle.std.proofs.lemmas.List.{get_or_append_left, get_or-append_right, length-append}
 use Rattle.std.proofs.lemmas.Bool.{cases_lt, eqb-true, not-false}
 use Rattle.permutation.specs.Blocks.{Block, Inverse, ◌⊕◌}
-use Rattle.permutation.specs.BlockLaws.{xor_block, xors_comm, xors_cancel}
+use Rattle.permutation.specs.BlockLaws.{xor_block, xors_comm, xors_cancel, length_xors}
 use Rattle.modes.specs.declared.cipher.Usage.{Usage}
 use Rattle.modes.specs.declared.cipher.Usage.TheVariants.{Label, Text, Plate}
-use Rattle.modes.specs.Cipher.{usage_bytes, header, base, masked, tem, tem_reverse, tem_claims, bad_index, bad_block}
+use Rattle.modes.specs.Cipher.{usage_bytes, header, base, masked, tem_at, tem, tem_reverse, tem_claims, bad_index, bad_block}
 use Rattle.modes.specs.Keys.{Bytes, bad_key, bad_nonce}
 use Rattle.modes.specs.MaskLaws.{mask_block}
 use Rattle.modes.specs.Refusals.{answer}
@@ -58,6 +58,11 @@ module _ (f g : List ℕ → List ℕ) (keeps : (x : List ℕ) → Block x → B
       ∙ ap (λ z. w ⊕ z) (undoes (x ⊕ w) inner)
       ∙ xors_comm 32 w (x ⊕ w)
       ∙ xors_cancel 32 x w hx.0
+
+-- whatever it is given, it gives 32 entries
+pub length_tem : (f : List ℕ → List ℕ) (l : List ℕ) (i j : ℕ) (x : List ℕ) → length (tem_at f l i j x) ≡ 32
+unfolding masked
+length_tem f l i j x = length_xors 32 _ _
 
 module _ (forth back : List ℕ → List ℕ) (law : Inverse forth back) (key : List ℕ) (usage : Usage) (nonce : List ℕ)
     (hk : Bytes 16 key) (hn : Bytes 13 nonce) where

@@ -1,17 +1,12 @@
 -- The cipher of a key and a nonce is lawful.
-use Rattle.std.proofs.Common.{◌≡◌, ℕ, ◌-◌, ◌*◌, List, length, arith}
+use Rattle.std.proofs.Common.{ℕ, ◌-◌, ◌*◌, List, arith}
 use Rattle.std.proofs.lemmas.List.{length-take}
 use Rattle.permutation.specs.Blocks.{Inverse}
-use Rattle.permutation.specs.BlockLaws.{length_xors}
 use Rattle.modes.specs.declared.cipher.Usage.TheVariants.{Text}
-use Rattle.modes.specs.Cipher.{base, masked, tem_at}
-use Rattle.modes.specs.CipherLaws.{tem_block, tem_reverse_block, tem_undone, tem_redone}
+use Rattle.modes.specs.Cipher.{base}
+use Rattle.modes.specs.CipherLaws.{length_tem, tem_block, tem_reverse_block, tem_undone, tem_redone}
 use Rattle.modes.specs.Keys.{Bytes}
 use Rattle.sheet.specs.Ciphers.{cipher_of, Lawful}
-
-length_tem : (f : List ℕ → List ℕ) (l : List ℕ) (i j : ℕ) (x : List ℕ) → length (tem_at f l i j x) ≡ 32
-unfolding masked
-length_tem f l i j x = length_xors 32 _ _
 
 pub lawful : (forth back : List ℕ → List ℕ) → Inverse forth back → (key nonce : List ℕ) → Bytes 16 key → Bytes 13 nonce → Lawful (cipher_of forth back key nonce)
 lawful forth back law key nonce hk hn = record {

@@ -1,7 +1,7 @@
 use Rattle.std.proofs.Common.{◌≡◌, ℕ, ◌+◌, ◌-◌, ◌*◌, ◌<◌, ◌≤◌, List, [], ◌++◌, length, get_or, take, drop, sym, ap, ◌∙◌, ap₂, arith}
 use Rattle.std.proofs.lemmas.List.{take-append-drop, take_all}
 use Rattle.envelope.specs.Layouts.{joined}
-use Rattle.envelope.specs.Writing.{placed}
+use Rattle.sheet.specs.Edits.{overwritten}
 use Rattle.envelope.proofs.Blocks.{Whole, joined_more, length_front}
 use Rattle.envelope.proofs.Placing.{placed_more}
 use Rattle.envelope.proofs.writing.put_blocks.Goals as goal
@@ -15,17 +15,17 @@ loop-k-init g c =
 
 -- one block more
 one_more : (xs : List ℕ) (at k : ℕ) (bs : List (List ℕ)) (so_far b after : List ℕ) → Whole bs → k < length bs → at ≤ length xs
-    → so_far ≡ placed xs at (joined (take k bs)) → b ≡ get_or bs (k + 1 - 1) [] → after ≡ placed so_far (at + 32 * k) b
-    → after ≡ placed xs at (joined (take (k + 1) bs))
+    → so_far ≡ overwritten xs at (joined (take k bs)) → b ≡ get_or bs (k + 1 - 1) [] → after ≡ overwritten so_far (at + 32 * k) b
+    → after ≡ overwritten xs at (joined (take (k + 1) bs))
 one_more xs at k bs so_far b after whole h fits was is put =
     let place : k + 1 - 1 ≡ k = omega arith in
     let front : List ℕ = joined (take k bs) in
     let size : 32 * k ≡ length front = sym (length_front bs k whole (omega arith)) in
     put
-    ∙ ap₂ (λ x n. placed x (at + n) b) was size
+    ∙ ap₂ (λ x n. overwritten x (at + n) b) was size
     ∙ placed_more xs at front b fits
-    ∙ ap (λ x. placed xs at (front ++ x)) (is ∙ ap (λ i. get_or bs i []) place)
-    ∙ ap (placed xs at) (joined_more bs k h)
+    ∙ ap (λ x. overwritten xs at (front ++ x)) (is ∙ ap (λ i. get_or bs i []) place)
+    ∙ ap (overwritten xs at) (joined_more bs k h)
 
 pub loop-k-preserved : goal.loop-k-preserved
 loop-k-preserved g c =
@@ -41,5 +41,5 @@ returns g c =
     let all : length bs ≤ c.loop-k.k = omega arith in
     record {
       end = ap (λ n. c.args.at + 32 * n) count;
-      after = c.loop-k.invariant ∙ ap (λ x. placed c.args.out.now c.args.at (joined x)) (take_all c.loop-k.k bs all);
+      after = c.loop-k.invariant ∙ ap (λ x. overwritten c.args.out.now c.args.at (joined x)) (take_all c.loop-k.k bs all);
     }

@@ -1,5 +1,5 @@
 use Rattle.std.proofs.Common.{◌+◌, length, sym, ap, ◌∙◌, arith}
-use Rattle.envelope.specs.Writing.{placed}
+use Rattle.sheet.specs.Edits.{overwritten}
 use Rattle.envelope.proofs.Numbering.{one_group, two_groups, three_groups, length_one, length_two, length_three}
 use Rattle.envelope.proofs.writing.put_number.Goals as goal
 
@@ -17,7 +17,7 @@ returns-then-n-lt-TOP c =
     let is = sym (one_group c.args.n (omega arith)) in
     record {
       end = c.put.ensures.end ∙ ap (λ g. c.args.at + length g) is;
-      after = c.put.ensures.after ∙ ap (placed c.args.out.now c.args.at) is;
+      after = c.put.ensures.after ∙ ap (overwritten c.args.out.now c.args.at) is;
     }
 
 pub returns-then-n : goal.returns-then-n
@@ -25,7 +25,7 @@ returns-then-n c =
     let is = sym (two_groups c.args.n (omega arith) (omega arith)) in
     record {
       end = c.put-then-n.ensures.end ∙ ap (λ g. c.args.at + length g) is;
-      after = c.put-then-n.ensures.after ∙ ap (placed c.args.out.now c.args.at) is;
+      after = c.put-then-n.ensures.after ∙ ap (overwritten c.args.out.now c.args.at) is;
     }
 
 pub returns-else-n : goal.returns-else-n
@@ -33,5 +33,5 @@ returns-else-n c =
     let is = sym (three_groups c.args.n (omega arith)) in
     record {
       end = c.put-else-n.ensures.end ∙ ap (λ g. c.args.at + length g) is;
-      after = c.put-else-n.ensures.after ∙ ap (placed c.args.out.now c.args.at) is;
+      after = c.put-else-n.ensures.after ∙ ap (overwritten c.args.out.now c.args.at) is;
     }

@@ -1,7 +1,8 @@
 use Rattle.std.proofs.Common.{◌+◌, [], ◌++◌, length, sym, ap, ◌∙◌}
 use Rattle.envelope.specs.Layouts.{mark, joined, layout}
 use Rattle.envelope.specs.Numbers.{groups}
-use Rattle.envelope.specs.Writing.{placed, overlaid}
+use Rattle.sheet.specs.Edits.{overwritten}
+use Rattle.envelope.specs.Writing.{overlaid}
 use Rattle.envelope.proofs.Blocks.{length_joined}
 use Rattle.envelope.proofs.Placing.{nothing_written, written_more, seven_parts}
 use Rattle.envelope.proofs.writing.write_envelope.Goals as goal
@@ -21,7 +22,7 @@ returns g c =
     let d =
     written_more xs (mark ++ size) amount _ _ _ _ b
     (c.put_number-at-2.ensures.end ∙ ap (λ n. c.put_number-at.result + length (groups n)) count)
-    (c.put_number-at-2.ensures.after ∙ ap (λ n. placed c.put_number-at.new.out c.put_number-at.result (groups n)) count) in
+    (c.put_number-at-2.ensures.after ∙ ap (λ n. overwritten c.put_number-at.new.out c.put_number-at.result (groups n)) count) in
     let e = written_more xs ((mark ++ size) ++ amount) c.args.nonce _ _ _ _ d c.put-at-2.ensures.end c.put-at-2.ensures.after in
     let f = written_more xs (((mark ++ size) ++ amount) ++ c.args.nonce) label _ _ _ _ e c.put-at-3.ensures.end c.put-at-3.ensures.after in
     let k =
