@@ -50,7 +50,11 @@ def functions(path, text):
             head, body = whole[:opened], whole[opened:]
         clauses = re.findall(r"^\s*(?:requires|ensures)\b[^{]*\{(.*)\}\s*$", head, re.M)
         signature = re.split(r"\b(?:requires|ensures)\b", head)[0]
-        listed = re.split(r"fn \w+(?:<[^(]*>)?\(", signature)[1]
+        # a generic parameter may itself have brackets, as a closure's bound
+        listed = signature[signature.find("fn " + name):]
+        while not re.match(r"fn \w+(<.*?>)?\(", listed, re.S) and "(" in listed:
+            listed = "fn _(" + listed.partition(">(")[2]
+        listed = listed.partition("(")[2]
         parameters = re.findall(r"(\w+): ([^,()]+)", listed)
         yield f"{path}:{line}", name, parameters, clauses, body
 

@@ -1,123 +1,26 @@
-// What is measured. What a run comes to goes into the next, so that none can be left out.
+// What is measured. What a call comes to goes into the next, so that none can be left out.
 use crate::failure::Failure;
+use crate::meter::{Load, Meter};
 use modes::plate::plate_mac;
 use modes::refusal::Refusal;
 use permutation::Permutation;
+use sheet::context::Context;
 use sheet::memory::MemoryHolder;
 use sheet::received::ReceivedHolder;
 use sheet::sheet::Sheet;
 use std::alloc::{AllocError, Global};
+use std::fmt::Display;
 
 const KEY: [u8; 16] = [7; 16];
 
-const NONCE: [u8; 13] = [9; 13];
-
-pub trait Job {
-    // How many calls a run makes.
-    fn calls(&self) -> u32;
-
-    // How many bytes a call works on.
-    fn bytes(&self) -> u32;
-
-    fn run<K: Permutation>(&mut self) -> Result<u8, Refusal>;
-}
-
-#[derive(Clone, Copy)]
-pub struct Forward {
-    pub block: [u8; 32],
-}
-
-impl Job for Forward {
-    fn calls(&self) -> u32 {
-        100
-    }
-
-    fn bytes(&self) -> u32 {
-        32
-    }
-
-    fn run<K: Permutation>(&mut self) -> Result<u8, Refusal> {
-        for _k in 0..100 {
-            self.block = K::forward(self.block);
-        }
-        Ok(self.block[0])
-    }
-}
-
-#[derive(Clone, Copy)]
-pub struct Backward {
-    pub block: [u8; 32],
-}
-
-impl Job for Backward {
-    fn calls(&self) -> u32 {
-        100
-    }
-
-    fn bytes(&self) -> u32 {
-        32
-    }
-
-    fn run<K: Permutation>(&mut self) -> Result<u8, Refusal> {
-        for _k in 0..100 {
-            self.block = K::backward(self.block);
-        }
-        Ok(self.block[0])
-    }
-}
+const CONTEXT: Context<'static> = Context {
+    key: &KEY,
+    nonce: &[9; 13],
+    label: &[],
+};
 
 fn zeros(heap: Global, n: u32) -> Result<Vec<u8>, AllocError> {
     vec![in heap; 0u8; n as usize]
-}
-
-// The MAC of a plate.
-#[derive(Drop)]
-pub struct Plate {
-    n: u32,
-    plate: Vec<u8>,
-}
-
-impl Plate {
-    pub(crate) fn new(heap: Global, n: u32) -> Result<Plate, AllocError> {
-        Ok(Plate {
-            n,
-            plate: zeros(heap, n)?,
-        })
-    }
-}
-
-impl Job for Plate {
-    fn calls(&self) -> u32 {
-        10
-    }
-
-    fn bytes(&self) -> u32 {
-        self.n
-    }
-
-    fn run<K: Permutation>(&mut self) -> Result<u8, Refusal> {
-        let mut last = 0;
-        for _k in 0..10 {
-            let tag = plate_mac::<K>(&KEY, self.plate.as_slice())?;
-            last = tag[0];
-            mark(self.plate.as_mut_slice(), last);
-        }
-        Ok(last)
-    }
-}
-
-fn mark(bytes: &mut [u8], value: u8) {
-    if bytes.len() > 0 {
-        bytes[0] ^= value;
-    }
-}
-
-fn last_of(bytes: &[u8]) -> u8 {
-    if bytes.len() > 0 {
-        bytes[bytes.len() - 1]
-    } else {
-        0
-    }
 }
 
 // Room for the blocks of a text.
@@ -125,75 +28,91 @@ fn room_for(heap: Global, n: u32) -> Result<Vec<u8>, AllocError> {
     vec![in heap; 0u8; n as usize / 32 * 32 + 32]
 }
 
-// The sealing of a text, up to its tag.
-#[derive(Drop)]
-pub struct Sealing {
-    n: u32,
-    text: Vec<u8>,
-    room: Vec<u8>,
-}
-
-impl Sealing {
-    pub(crate) fn new(heap: Global, n: u32) -> Result<Sealing, AllocError> {
-        Ok(Sealing {
-            n,
-            text: zeros(heap, n)?,
-            room: room_for(heap, n)?,
-        })
+fn mark(bytes: &mut [u8], value: u8) {
+    if let Some(first) = bytes.first_mut() {
+        *first ^= value;
     }
 }
 
-impl Job for Sealing {
-    fn calls(&self) -> u32 {
-        1
-    }
-
-    fn bytes(&self) -> u32 {
-        self.n
-    }
-
-    fn run<K: Permutation>(&mut self) -> Result<u8, Refusal> {
-        sealed_into::<K>(self.text.as_slice(), self.room.as_mut_slice())?;
-        let last = last_of(self.room.as_slice());
-        mark(self.text.as_mut_slice(), last);
-        Ok(last)
-    }
-}
-
+// Seals and opens stand in functions of their own, so that they are compiled apart from the meter's loop.
+#[inline(never)]
 fn sealed_into<K: Permutation>(text: &[u8], room: &mut [u8]) -> Result<Sheet<K>, Refusal> {
     let mut holder = MemoryHolder::new(room, 0);
-    Sheet::<K>::seal(&KEY, &NONCE, &[], text, &mut holder)
+    Sheet::<K>::seal(CONTEXT, text, &mut holder)
+}
+
+#[inline(never)]
+fn opened_from<K: Permutation>(blocks: &[u8], tag: &[u8]) -> Result<Sheet<K>, Refusal> {
+    let holder = ReceivedHolder::new(blocks);
+    Sheet::<K>::open(CONTEXT, tag, &holder)
+}
+
+// A permutation of one block, or its inverse.
+pub(crate) fn measure_block<N: Display + Drop, F: Fn([u8; 32]) -> [u8; 32] + Drop>(
+    meter: &mut Meter<'_>,
+    name: N,
+    permutation: F,
+) -> Result<(), Failure>
+    requires { F.IsAlwaysCallable permutation }
+{
+    let mut block = [0; 32];
+    let load = Load {
+        calls: 100,
+        bytes: 32,
+    };
+    meter.measure(name, load, || {
+        block = permutation(block);
+        Ok(block[0])
+    })
+}
+
+// The MAC of a plate.
+pub(crate) fn measure_plate<K: Permutation>(
+    meter: &mut Meter<'_>,
+    kind: &str,
+    n: u32,
+) -> Result<(), Failure> {
+    let mut plate = zeros(meter.rt.alloc(), n)?;
+    let load = Load {
+        calls: 10,
+        bytes: n,
+    };
+    meter.measure(format_args!("{kind} plate of {n}"), load, || {
+        let [first, ..] = plate_mac::<K>(&KEY, plate.as_slice())?;
+        mark(plate.as_mut_slice(), first);
+        Ok(first)
+    })
+}
+
+// The sealing of a text, up to its tag.
+pub(crate) fn measure_sealing<K: Permutation>(
+    meter: &mut Meter<'_>,
+    kind: &str,
+    n: u32,
+) -> Result<(), Failure> {
+    let mut text = zeros(meter.rt.alloc(), n)?;
+    let mut room = room_for(meter.rt.alloc(), n)?;
+    let load = Load { calls: 1, bytes: n };
+    meter.measure(format_args!("{kind} seal {n}"), load, || {
+        sealed_into::<K>(text.as_slice(), room.as_mut_slice())?;
+        let last = room.last().copied().unwrap_or(0);
+        mark(text.as_mut_slice(), last);
+        Ok(last)
+    })
 }
 
 // The opening of a sheet, up to its length.
-#[derive(Drop)]
-pub struct Opening {
+pub(crate) fn measure_opening<K: Permutation>(
+    meter: &mut Meter<'_>,
+    kind: &str,
     n: u32,
-    blocks: Vec<u8>,
-    tag: [u8; 16],
-}
-
-impl Opening {
-    pub(crate) fn new<K: Permutation>(heap: Global, n: u32) -> Result<Opening, Failure> {
-        let text = zeros(heap, n)?;
-        let mut blocks = room_for(heap, n)?;
-        let tag = sealed_into::<K>(text.as_slice(), blocks.as_mut_slice())?.tag();
-        Ok(Opening { n, blocks, tag })
-    }
-}
-
-impl Job for Opening {
-    fn calls(&self) -> u32 {
-        1
-    }
-
-    fn bytes(&self) -> u32 {
-        self.n
-    }
-
-    fn run<K: Permutation>(&mut self) -> Result<u8, Refusal> {
-        let holder = ReceivedHolder::new(self.blocks.as_slice());
-        let sheet = Sheet::<K>::open(&KEY, &NONCE, &[], &self.tag, &holder)?;
+) -> Result<(), Failure> {
+    let text = zeros(meter.rt.alloc(), n)?;
+    let mut blocks = room_for(meter.rt.alloc(), n)?;
+    let tag = sealed_into::<K>(text.as_slice(), blocks.as_mut_slice())?.tag();
+    let load = Load { calls: 1, bytes: n };
+    meter.measure(format_args!("{kind} open {n}"), load, || {
+        let sheet = opened_from::<K>(blocks.as_slice(), &tag)?;
         Ok((sheet.length() % 256) as u8)
-    }
+    })
 }

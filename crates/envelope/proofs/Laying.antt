@@ -1,20 +1,21 @@
 -- What is taken apart is an envelope, and every envelope is taken apart.
-use Rattle.std.proofs.Common.{◌≡◌, ℕ, ◌+◌, ◌*◌, ◌≤◌, true, false, eqb, ltb, List, [], ◌∷◌, ◌++◌, length, take, drop, Some, Ok, sym, refl, ap, ◌∙◌, subst, ap₂, arith, length-drop, length-take}
+use Rattle.std.proofs.Common.{◌≡◌, ℕ, ◌+◌, ◌*◌, ◌≤◌, eqb, ltb, List, [], ◌∷◌, ◌++◌, length, take, drop, Some, Ok, Result, sym, refl, ap, ◌∙◌, subst, ap₂, arith, length-drop, length-take}
 use Rattle.std.proofs.lemmas.List.{take-append-drop, drop-drop, take_all, take_at, drop_at}
 use Rattle.std.proofs.lemmas.Bool.{eqb-true, le-ltb, not-false, or_from}
 use Rattle.modes.specs.PlateLaws.{same_true}
+use Rattle.modes.specs.declared.refusal.Refusal.{Refusal}
 use Rattle.modes.specs.Refusals.{Claim, answer}
 use Rattle.modes.specs.RefusalLaws.{answer_ok, taken_rest}
 use Rattle.modes.specs.Sums.{same}
 use Rattle.envelope.specs.Layouts.{mark, Fields, Laid}
 use Rattle.envelope.specs.Numbers.{Encodes}
-use Rattle.envelope.specs.Parsing.{value_of, taken_of, number_at, outside, bad_number, no_mark, label_size, count_place, block_count, nonce_place, told_length, bad_length, parse_claims, parse_answer, fields_in, ParsesExactly}
+use Rattle.envelope.specs.Parsing.{value_of, taken_of, number_at, outside, bad_number, no_mark, label_size, count_place, block_count, nonce_place, told_length, bad_length, parse_claims, parse_answer, part, fields_in, ParsesExactly}
 use Rattle.envelope.proofs.Numbering.{reads_exactly}
-use Rattle.envelope.proofs.Walking.{inside_is, parsed}
+use Rattle.envelope.proofs.Walking.{inside_is, SoundEnvelope, parsed}
 
--- n bytes and what follows them
-split : (xs : List ℕ) (at n : ℕ) → drop at xs ≡ take n (drop at xs) ++ drop (at + n) xs
-split xs at n = sym (take-append-drop n (drop at xs)) ∙ ap (λ r. take n (drop at xs) ++ r) (drop-drop n at xs)
+-- n bytes, and what is known to stand behind them
+split : (xs : List ℕ) (at n : ℕ) {r : List ℕ} → drop (at + n) xs ≡ r → drop at xs ≡ take n (drop at xs) ++ r
+split xs at n e = sym (take-append-drop n (drop at xs)) ∙ ap (λ r. take n (drop at xs) ++ r) (drop-drop n at xs ∙ e)
 
 -- where p stands at a place, it is the part there, and what follows stands behind it
 at_part : (xs p q : List ℕ) (at n : ℕ) → drop at xs ≡ p ++ q → length p ≡ n → (take n (drop at xs) ≡ p) × (drop (at + n) xs ≡ q)
@@ -24,13 +25,6 @@ same_fields : (f g : Fields) → f.nonce ≡ g.nonce → f.label ≡ g.label →
 same_fields f g n l b t =
     ap₂ (λ x y. record { nonce = x; label = y; blocks = f.blocks; tag = f.tag }) n l
     ∙ ap₂ (λ x y. record { nonce = g.nonce; label = g.label; blocks = x; tag = y }) b t
-
--- why an envelope was taken apart
-pub record SoundEnvelope (bytes : List ℕ) : Type 0 where
-  pub marked : same (take 2 bytes) mark ≡ true
-  pub label_inside : outside 0 4096 (number_at bytes 2) ≡ false
-  pub count_inside : outside 1 4096 (number_at bytes (count_place bytes)) ≡ false
-  pub length_told : length bytes ≡ told_length bytes
 
 pub sound : {A : Type 0} (bytes : List ℕ) (more : List Claim) (x v : A) → Ok v ≡ answer (parse_claims bytes ++ more) x → SoundEnvelope bytes
 sound bytes more x v h =
@@ -72,18 +66,11 @@ sound_laid bytes s =
       whole_blocks = simp (length-take, length-drop) (omega arith);
       tag_size = simp (length-take, length-drop) (omega arith);
       bytes_are =
-          split bytes 0 2
+          sym (take-append-drop 2 bytes)
           ∙ ap₂ (λ x y. x ++ y) (same_true (take 2 bytes) mark s.marked)
           (split bytes 2 (taken_of (number_at bytes 2))
-          ∙ ap (λ r. take (taken_of (number_at bytes 2)) (drop 2 bytes) ++ r)
           (split bytes (count_place bytes) (taken_of (number_at bytes (count_place bytes)))
-          ∙ ap (λ r. take (taken_of (number_at bytes (count_place bytes))) (drop (count_place bytes) bytes) ++ r)
-          (split bytes p 13
-          ∙ ap (λ r. take 13 (drop p bytes) ++ r)
-          (split bytes (p + 13) size
-          ∙ ap (λ r. take size (drop (p + 13) bytes) ++ r)
-          (split bytes (p + 13 + size) wide
-          ∙ ap (λ r. take wide (drop (p + 13 + size) bytes) ++ r) (sym (take_all 16 (drop (p + 13 + size + wide) bytes) all)))))));
+          (split bytes p 13 (split bytes (p + 13) size (split bytes (p + 13 + size) wide (sym (take_all 16 (drop (p + 13 + size + wide) bytes) all)))))));
     }
 
 module _ (xs : List ℕ) (f : Fields) (g : Laid xs f) where
@@ -117,20 +104,24 @@ module _ (xs : List ℕ) (f : Fields) (g : Laid xs f) where
   count_size_is : g.count ≡ block_count xs
   count_size_is = sym (ap value_of count_is)
 
+  nonce_there : (part xs (nonce_place xs) 13 ≡ f.nonce) × (drop (nonce_place xs + 13) xs ≡ f.label ++ (f.blocks ++ f.tag))
+  nonce_there = at_part xs f.nonce (f.label ++ (f.blocks ++ f.tag)) (nonce_place xs) 13 at_nonce g.nonce_size
+
+  label_there : (part xs (nonce_place xs + 13) (label_size xs) ≡ f.label) × (drop (nonce_place xs + 13 + label_size xs) xs ≡ f.blocks ++ f.tag)
+  label_there = at_part xs f.label (f.blocks ++ f.tag) (nonce_place xs + 13) (label_size xs) nonce_there.1 label_size_is
+
+  blocks_there : (part xs (nonce_place xs + 13 + label_size xs) (32 * block_count xs) ≡ f.blocks)
+      × (drop (nonce_place xs + 13 + label_size xs + 32 * block_count xs) xs ≡ f.tag)
+  blocks_there =
+      at_part xs f.blocks f.tag (nonce_place xs + 13 + label_size xs) (32 * block_count xs) label_there.1 (g.whole_blocks ∙ ap (λ m. 32 * m) count_size_is)
+
   pub laid_fields : fields_in xs ≡ f
   laid_fields =
-      let n = at_part xs f.nonce (f.label ++ (f.blocks ++ f.tag)) (nonce_place xs) 13 at_nonce g.nonce_size in
-      let l = at_part xs f.label (f.blocks ++ f.tag) (nonce_place xs + 13) (label_size xs) n.1 label_size_is in
-      let b = at_part xs f.blocks f.tag (nonce_place xs + 13 + label_size xs) (32 * block_count xs) l.1 (g.whole_blocks ∙ ap (λ m. 32 * m) count_size_is) in
-      let short : length f.tag ≤ 16 = omega (arith, g.tag_size) in
-      let t : take 16 (drop (nonce_place xs + 13 + label_size xs + 32 * block_count xs) xs) ≡ f.tag = ap (take 16) b.1 ∙ take_all 16 f.tag short in
-      same_fields (fields_in xs) f n.0 l.0 b.0 t
+      same_fields (fields_in xs) f nonce_there.0 label_there.0 blocks_there.0
+      (ap (take 16) blocks_there.1 ∙ take_all 16 f.tag (omega (arith, g.tag_size)))
 
   pub laid_sound : SoundEnvelope xs
   laid_sound =
-      let n = at_part xs f.nonce (f.label ++ (f.blocks ++ f.tag)) (nonce_place xs) 13 at_nonce g.nonce_size in
-      let l = at_part xs f.label (f.blocks ++ f.tag) (nonce_place xs + 13) (label_size xs) n.1 label_size_is in
-      let b = at_part xs f.blocks f.tag (nonce_place xs + 13 + label_size xs) (32 * block_count xs) l.1 (g.whole_blocks ∙ ap (λ m. 32 * m) count_size_is) in
       let p = nonce_place xs + 13 + label_size xs + 32 * block_count xs in
       let some = g.some_blocks in
       let few = g.few_blocks in
@@ -143,13 +134,12 @@ module _ (xs : List ℕ) (f : Fields) (g : Laid xs f) where
         count_inside =
             ap (outside 1 4096) count_is
             ∙ or_from (ltb g.count 1) (ltb 4096 g.count) (le-ltb g.count 1 (omega arith)) (le-ltb 4096 g.count few);
-        length_told = omega (arith, length-drop p xs, ap length b.1, g.tag_size);
+        length_told = omega (arith, length-drop p xs, ap length blocks_there.1, g.tag_size);
       }
 
   pub laid_parsed : parse_answer xs ≡ Ok f
   laid_parsed =
-      let s = laid_sound in
-      parsed xs s.marked s.label_inside s.count_inside s.length_told ∙ ap Ok laid_fields
+      parsed xs laid_sound ∙ ap Ok laid_fields
 
 pub parses_exactly : (bytes : List ℕ) → ParsesExactly bytes (parse_answer bytes)
 parses_exactly bytes = record {
@@ -158,3 +148,6 @@ parses_exactly bytes = record {
       subst (Laid bytes) (sym is) (sound_laid bytes (sound bytes [] (fields_in bytes) f (sym h)));
   laid_taken = λ f g. laid_parsed bytes f g;
 }
+
+pub exact_parsing : (bytes : List ℕ) (r : Result Fields Refusal) → r ≡ parse_answer bytes → ParsesExactly bytes r
+exact_parsing bytes r e = subst (ParsesExactly bytes) (sym e) (parses_exactly bytes)

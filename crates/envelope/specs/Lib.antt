@@ -6,5 +6,6 @@ pub mod Views
 pub mod Receiving
 pub mod Arrivals
 pub mod Writing
+pub mod Writers
 pub mod Sending
 pub mod Worked

@@ -1,5 +1,5 @@
 // Reads the bytes of an envelope from front to back: the mark, the numbers and the parts.
-ghost use Rattle.std.specs.Prelude.{◌≡◌, ◌+◌, ◌^◌, ◌<◌, [], ◌∷◌, length, take, is_ok, if◌then◌else◌};
+ghost use Rattle.std.specs.Prelude.{◌≡◌, ◌+◌, ◌^◌, ◌<◌, ◌≤◌, [], ◌∷◌, length, take, is_ok, IfOk, if◌then◌else◌};
 ghost use Rattle.modes.specs.Refusals.{answer};
 ghost use Rattle.modes.specs.Sums.{same};
 ghost use Rattle.envelope.specs.Layouts.{mark as mark_bytes};
@@ -39,8 +39,7 @@ impl<'a> Reader<'a> {
         ensures value { result.now ≡ rest_of self.now }
         ensures fits { self.now.place + length result.now < 2 ^ 64 }
     {
-        let from = self.place.min(self.bytes.len());
-        &self.bytes[from..]
+        &self.bytes[self.place.min(self.bytes.len())..]
     }
 
     // Whether the mark stands here; it is read if so.
@@ -48,12 +47,11 @@ impl<'a> Reader<'a> {
         ensures value { result ≡ same (take 2 (rest_of self.old)) mark_bytes }
         ensures after { self.new ≡ (if result then moved self.old 2 else self.old) }
     {
-        let rest = self.rest();
-        if rest.len() < 2 || rest[0] != MARK[0] || rest[1] != MARK[1] {
-            return false;
+        let found = self.rest().starts_with(&MARK);
+        if found {
+            self.place += MARK.len();
         }
-        self.place += 2;
-        true
+        found
     }
 
     // The number that stands here, and how many bytes it took.
@@ -61,36 +59,35 @@ impl<'a> Reader<'a> {
         ensures value { result ≡ number_in (rest_of self.old) }
         ensures after { self.new ≡ moved self.old (taken_of result) }
     {
-        let found = read_number(self.rest());
-        if let Some((_, taken)) = found {
-            self.place += taken;
-        }
-        found
+        let (value, taken) = read_number(self.rest())?;
+        self.place += taken;
+        Some((value, taken))
     }
 
     // A number that has to be in a range, bounds included; it is declined at its first byte, and not read then.
+    // Stays two bounds: a range that was iterated to its end answers otherwise, and the clauses would have to tell them apart.
     pub fn number_within(&mut self, low: usize, high: usize) -> Result<usize, Refusal>
         ensures value { result ≡ answer (bad_number low high self.old.bytes.now self.old.place ∷ []) (value_of (number_in (rest_of self.old))) }
         ensures after { self.new ≡ (if is_ok result then moved self.old (taken_of (number_in (rest_of self.old))) else self.old) }
+        ensures within { IfOk result (λ n. (low ≤ n) × (n ≤ high)) }
+        ensures short { self.new.place ≤ self.old.place + 3 }
     {
-        let place = self.place;
-        match self.number() {
-            Some((value, _)) if low <= value && value <= high => Ok(value),
-            _ => {
-                self.place = place;
-                Err(Refusal::new(Layer::Envelope, Reason::Number, place))
-            }
-        }
+        let (value, taken) = read_number(self.rest())
+            .filter(|(value, _)| (low..=high).contains(value))
+            .ok_or_else(|| Refusal::new(Layer::Envelope, Reason::Number, self.place))?;
+        self.place += taken;
+        Ok(value)
     }
 
     // The next n bytes, or all that are left where they are fewer.
     pub fn part(&mut self, n: usize) -> &'a [u8]
         ensures value { result.now ≡ take n (rest_of self.old) }
         ensures after { self.new ≡ moved self.old (length result.now) }
+        ensures whole { self.old.place + n ≤ length self.old.bytes.now → self.new ≡ moved self.old n }
     {
         let rest = self.rest();
-        let size = n.min(rest.len());
-        self.place += size;
-        &rest[0..size]
+        let part = &rest[..n.min(rest.len())];
+        self.place += part.len();
+        part
     }
 }

@@ -7,6 +7,7 @@ use crate::parts::{Parts, parse};
 use modes::keys::Key;
 use modes::refusal::Refusal;
 use permutation::Permutation;
+use sheet::context::Context;
 use sheet::received::ReceivedHolder;
 use sheet::sheet::Sheet;
 
@@ -20,28 +21,17 @@ pub struct Received<'a, K> {
 pub fn receive<'a, K: Permutation>(key: &[u8], bytes: &'a [u8]) -> Result<Received<'a, K>, Refusal>
     ensures value { arrived result ≡ receive_answer K.Permutation.forth K.Permutation.back key.now bytes.now }
     ensures exactly { ReceivesExactly K.Permutation.forth K.Permutation.back key.now bytes.now (arrived result) }
-{
-    received_sheet::<K>(key, bytes)
-}
-
-fn received_sheet<'a, K: Permutation>(
-    key: &[u8],
-    bytes: &'a [u8],
-) -> Result<Received<'a, K>, Refusal>
-    ensures value { arrived result ≡ receive_answer K.Permutation.forth K.Permutation.back key.now bytes.now }
     ensures opens { PartsOpenExactly K.Permutation.forth K.Permutation.back key.now bytes.now }
 {
     // The key is judged before the envelope.
-    if let Err(refusal) = Key::new(key) {
-        return Err(refusal);
-    }
-    let parts = match parse(bytes) {
-        Ok(parts) => parts,
-        Err(refusal) => return Err(refusal),
-    };
+    Key::new(key)?;
+    let parts = parse(bytes)?;
     let holder = ReceivedHolder::new(parts.blocks);
-    match Sheet::<K>::open(key, parts.nonce, parts.label, parts.tag, &holder) {
-        Ok(sheet) => Ok(Received { sheet, parts }),
-        Err(refusal) => Err(refusal),
-    }
+    let context = Context {
+        key,
+        nonce: parts.nonce,
+        label: parts.label,
+    };
+    let sheet = Sheet::<K>::open(context, parts.tag, &holder)?;
+    Ok(Received { sheet, parts })
 }

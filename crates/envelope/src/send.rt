@@ -5,6 +5,8 @@ ghost use Rattle.envelope.specs.Sending.{sent, send_answer, Arrives};
 ghost use Rattle.envelope.specs.Writing.{overlaid};
 
 use crate::number::number_length;
+use crate::parts::{BLOCK_LENGTH, NONCE_LENGTH, TAG_LENGTH};
+use crate::reader::MARK;
 use crate::writing::write_envelope;
 use modes::refusal::{Layer, Reason, Refusal};
 use permutation::Permutation;
@@ -15,13 +17,12 @@ use sheet::sheet::Sheet;
 pub fn envelope_length(label: usize, count: usize) -> usize
     ensures { result ≡ min (layout_length label count) (2 ^ 64 - 1) }
 {
-    // The mark, the nonce and the tag have 31 bytes together.
     count
-        .saturating_mul(32)
+        .saturating_mul(BLOCK_LENGTH)
         .saturating_add(label)
         .saturating_add(number_length(label))
         .saturating_add(number_length(count))
-        .saturating_add(31)
+        .saturating_add(MARK.len() + NONCE_LENGTH + TAG_LENGTH)
 }
 
 // Writes the envelope of a sheet, under a label that has the sheet's label sum, to the front of a buffer; answers how many
@@ -36,23 +37,10 @@ pub fn send<K: Permutation, R: ReadBlocks>(
     ensures after { out.new ≡ (if is_ok result then overlaid out.old (sent K.Permutation.forth K.Permutation.back sheet.now.state (R.ReadBlocks.list h.now) label.now) else out.old) }
     ensures arrives { IfOk result (λ n. Arrives K.Permutation.forth K.Permutation.back sheet.now.state (R.ReadBlocks.list h.now) label.now (take n out.new)) }
 {
-    sent_sheet::<K, R>(sheet, h, label, out)
-}
-
-fn sent_sheet<K: Permutation, R: ReadBlocks>(
-    sheet: &Sheet<K>,
-    h: &R,
-    label: &[u8],
-    out: &mut [u8],
-) -> Result<usize, Refusal>
-    ensures value { result ≡ send_answer K.Permutation.forth K.Permutation.back sheet.now.state (R.ReadBlocks.list h.now) label.now (length out.old) }
-    ensures after { out.new ≡ (if is_ok result then overlaid out.old (sent K.Permutation.forth K.Permutation.back sheet.now.state (R.ReadBlocks.list h.now) label.now) else out.old) }
-    ensures nonced { length sheet.now.state.nonce.bytes ≡ 13 }
-{
     let nonce = sheet.nonce();
     let own = sheet.carries(label)?;
     let count = h.count();
-    if count != sheet.length() / 32 + 1 {
+    if count != sheet.length() / BLOCK_LENGTH + 1 {
         return Err(Refusal::new(Layer::Sheet, Reason::BlockCount, 0));
     }
     let size = envelope_length(label.len(), count);

@@ -5,6 +5,7 @@ ghost use Rattle.envelope.specs.Worked.{WorkedValues};
 use crate::send::envelope_length;
 
 // That the worked values stand, all together; the length of the empty sheet's envelope is computed too.
+#[tactic(auto, using(crate::proofs::WorkedEnvelopes::worked), unfolding(crate::specs::Numbers::groups))]
 pub fn worked_values() -> bool
     ensures stand { WorkedValues }
     ensures computed { result ≡ true }

@@ -1,82 +1,85 @@
 // Writes the parts of an envelope, one behind the other.
 ghost use Rattle.std.specs.Prelude.{◌≡◌, ◌+◌, ◌*◌, ◌<◌, ◌≤◌, length};
-ghost use Rattle.sheet.specs.Holders.{block};
 ghost use Rattle.envelope.specs.Layouts.{joined, layout, layout_length};
 ghost use Rattle.envelope.specs.Numbers.{groups};
-ghost use Rattle.sheet.specs.Edits.{overwritten};
+ghost use Rattle.envelope.specs.Writers.{Wrote};
 ghost use Rattle.envelope.specs.Writing.{overlaid};
 
-use crate::number::TOP;
+use crate::number::{GROUP, TOP};
+use crate::parts::{BLOCK_LENGTH, NONCE_LENGTH, TAG_LENGTH};
 use crate::reader::MARK;
 use sheet::holder::ReadBlocks;
 
-// Writes bytes from a place on, and answers where they end.
-fn put(out: &mut [u8], at: usize, bytes: &[u8]) -> usize
-    requires { at + length bytes.now ≤ length out.old }
-    ensures end { result ≡ at + length bytes.now }
-    ensures after { out.new ≡ overwritten out.old at bytes.now }
-{
-    let end = at + bytes.len();
-    out[at..end].copy_from_slice(bytes);
-    end
+// A buffer that the caller lends, and the place of the next byte to be written.
+#[derive(Drop)]
+struct Writer<'a> {
+    buffer: &'a mut [u8],
+    place: usize,
 }
 
-// Writes a number in its shortest form.
-fn put_number(out: &mut [u8], at: usize, n: usize) -> usize
-    requires { (n < 2097152) × (at + length (groups n) ≤ length out.old) }
-    ensures end { result ≡ at + length (groups n) }
-    ensures after { out.new ≡ overwritten out.old at (groups n) }
-{
-    if n < TOP {
-        put(out, at, &[n as u8])
-    } else if n < TOP * TOP {
-        put(out, at, &[(n % TOP + TOP) as u8, (n / TOP) as u8])
-    } else {
-        let low = (n % TOP + TOP) as u8;
-        let middle = (n / TOP % TOP + TOP) as u8;
-        put(out, at, &[low, middle, (n / (TOP * TOP)) as u8])
+impl<'a> Writer<'a> {
+    fn new(buffer: &'a mut [u8]) -> Writer<'a>
+        ensures buffer { result.buffer.now ≡ buffer.old }
+        ensures place { result.place ≡ 0 }
+        ensures tied { result.buffer.ghost_name ≡ buffer.entry.ghost_name }
+    {
+        Writer { buffer, place: 0 }
     }
-}
 
-// Block k, which is there.
-fn held_block<R: ReadBlocks>(h: &R, k: usize) -> [u8; 32]
-    requires { (0 < k) × (k ≤ length (R.ReadBlocks.list h.now)) }
-    ensures { result ≡ block (R.ReadBlocks.list h.now) k }
-{
-    let mut block = [0u8; 32];
-    let _ = h.get(k, &mut block);
-    block
-}
-
-// Writes all blocks of a holder.
-fn put_blocks<R: ReadBlocks>(out: &mut [u8], at: usize, h: &R) -> usize
-    requires { at + 32 * length (R.ReadBlocks.list h.now) ≤ length out.old }
-    ensures end { result ≡ at + 32 * length (R.ReadBlocks.list h.now) }
-    ensures after { out.new ≡ overwritten out.old at (joined (R.ReadBlocks.list h.now)) }
-{
-    let count = h.count();
-    for k in 0..count {
-        let _ = put(out, at + 32 * k, &held_block(h, k + 1));
+    // Writes bytes at the place, and moves behind them.
+    fn bytes(&mut self, bytes: &[u8])
+        requires { self.old.place + length bytes.now ≤ length self.old.buffer.now }
+        ensures { Wrote self.old self.new bytes.now }
+    {
+        let end = self.place + bytes.len();
+        self.buffer[self.place..end].copy_from_slice(bytes);
+        self.place = end;
     }
-    at + 32 * count
+
+    // Writes a number in its shortest form.
+    #[tactic(auto, using(crate::proofs::Numbering::one_group), unfolding(crate::specs::Numbers::groups))]
+    fn number(&mut self, n: usize)
+        requires { (n < 2097152) × (self.old.place + length (groups n) ≤ length self.old.buffer.now) }
+        ensures { Wrote self.old self.new (groups n) }
+    {
+        let mut rest = n;
+        while rest >= GROUP {
+            self.bytes(&[(rest % GROUP) as u8 + TOP]);
+            rest /= GROUP;
+        }
+        self.bytes(&[rest as u8]);
+    }
+
+    // Writes all blocks of a holder.
+    fn blocks<R: ReadBlocks>(&mut self, h: &R)
+        requires { self.old.place + 32 * length (R.ReadBlocks.list h.now) ≤ length self.old.buffer.now }
+        ensures { Wrote self.old self.new (joined (R.ReadBlocks.list h.now)) }
+    {
+        for k in 0..h.count() {
+            // Each block up to the count is there.
+            self.bytes(&h.block(k + 1).unwrap_or([0; BLOCK_LENGTH]));
+        }
+    }
 }
 
 // Writes an envelope to the front of a buffer that has room for it.
+#[tactic(auto, using(crate::proofs::Blocks::length_joined))]
 pub(crate) fn write_envelope<R: ReadBlocks>(
     out: &mut [u8],
-    nonce: [u8; 13],
+    nonce: [u8; NONCE_LENGTH],
     label: &[u8],
     h: &R,
-    tag: [u8; 16],
+    tag: [u8; TAG_LENGTH],
 )
     requires { (length label.now ≤ 4096) × (layout_length (length label.now) (length (R.ReadBlocks.list h.now)) ≤ length out.old) }
     ensures { out.new ≡ overlaid out.old (layout nonce label.now (R.ReadBlocks.list h.now) tag) }
 {
-    let at = put(out, 0, &MARK);
-    let at = put_number(out, at, label.len());
-    let at = put_number(out, at, h.count());
-    let at = put(out, at, &nonce);
-    let at = put(out, at, label);
-    let at = put_blocks(out, at, h);
-    let _ = put(out, at, &tag);
+    let mut writer = Writer::new(out);
+    writer.bytes(&MARK);
+    writer.number(label.len());
+    writer.number(h.count());
+    writer.bytes(&nonce);
+    writer.bytes(label);
+    writer.blocks(h);
+    writer.bytes(&tag);
 }

@@ -1,5 +1,6 @@
-pub mod Stepping
 pub mod Placing
 pub mod Padding
 pub mod Comparing
 pub mod WorkedValues
+pub mod FromFn
+pub mod Undoing

@@ -1,5 +1,5 @@
 -- The tweakable cipher over a permutation whose two functions are `forth` and `back`.
-use Rattle.std.specs.Prelude.{ℕ, not, ◌&&◌, ◌||◌, List, [], ◌∷◌, ◌++◌, length, Result, ◌==◌, nat_lt}
+use Rattle.std.specs.Prelude.{ℕ, ◌&&◌, ◌||◌, List, [], ◌∷◌, ◌++◌, Result, ◌==◌, nat_lt}
 use Rattle.permutation.specs.Blocks.{◌⊕◌}
 use Rattle.modes.specs.declared.cipher.Usage.{Usage}
 use Rattle.modes.specs.declared.cipher.Usage.TheVariants.{Label, Text, Plate}
@@ -7,7 +7,7 @@ use Rattle.modes.specs.declared.mask.Mask.{Mask}
 use Rattle.modes.specs.declared.refusal.Layer.TheVariants.{Cipher}
 use Rattle.modes.specs.declared.refusal.Reason.TheVariants.{MaskIndex, BufferLength}
 use Rattle.modes.specs.declared.refusal.Refusal.{Refusal}
-use Rattle.modes.specs.Keys.{bad_key, bad_nonce}
+use Rattle.modes.specs.Keys.{bad_length, bad_key, bad_nonce}
 use Rattle.modes.specs.Masks.{mask}
 use Rattle.modes.specs.Refusals.{Claim, claim, refusal, answer}
 
@@ -43,7 +43,7 @@ abbrev pub bad_index : ℕ → ℕ → Claim
 bad_index i j = claim (nat_lt 8191 i || (nat_lt 2 j || (i == 0 && j == 0))) (refusal Cipher MaskIndex 0)
 
 abbrev pub bad_block : List ℕ → Claim
-bad_block x = claim (not (length x == 32)) (refusal Cipher BufferLength 0)
+bad_block x = bad_length 32 BufferLength x
 
 abbrev pub tem_claims : List ℕ → List ℕ → ℕ → ℕ → List ℕ → List Claim
 tem_claims key nonce i j x = bad_key key ∷ bad_nonce nonce ∷ bad_index i j ∷ bad_block x ∷ []

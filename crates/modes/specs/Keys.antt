@@ -3,6 +3,7 @@ use Rattle.std.specs.Prelude.{◌≡◌, ℕ, ◌<◌, not, List, length, ◌==�
 use Rattle.modes.specs.declared.keys.Key.{Key}
 use Rattle.modes.specs.declared.keys.Nonce.{Nonce}
 use Rattle.modes.specs.declared.refusal.Layer.TheVariants.{Cipher}
+use Rattle.modes.specs.declared.refusal.Reason.{Reason}
 use Rattle.modes.specs.declared.refusal.Reason.TheVariants.{KeyLength, NonceLength, TagLength}
 use Rattle.modes.specs.Refusals.{Claim, claim, refusal}
 
@@ -16,11 +17,15 @@ key_of b = record { bytes = b }
 abbrev pub nonce_of : List ℕ → Nonce
 nonce_of b = record { bytes = b }
 
+-- the bytes are not n, and are declined for the reason
+abbrev pub bad_length : ℕ → Reason → List ℕ → Claim
+bad_length n why b = claim (not (length b == n)) (refusal Cipher why 0)
+
 abbrev pub bad_key : List ℕ → Claim
-bad_key b = claim (not (length b == 16)) (refusal Cipher KeyLength 0)
+bad_key b = bad_length 16 KeyLength b
 
 abbrev pub bad_nonce : List ℕ → Claim
-bad_nonce b = claim (not (length b == 13)) (refusal Cipher NonceLength 0)
+bad_nonce b = bad_length 13 NonceLength b
 
 abbrev pub bad_tag : List ℕ → Claim
-bad_tag b = claim (not (length b == 16)) (refusal Cipher TagLength 0)
+bad_tag b = bad_length 16 TagLength b

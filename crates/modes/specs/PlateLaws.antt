@@ -1,10 +1,11 @@
 -- A plate check says yes exactly for the plate's MAC.
-use Rattle.std.specs.Prelude.{◌≡◌, ℕ, true, List, [], ◌∷◌, length, Ok, ◌==◌, refl}
-use Rattle.std.proofs.Common.{sym, ap, ◌∙◌, arith}
+use Rattle.std.specs.Prelude.{◌≡◌, ℕ, true, List, [], ◌∷◌, length, Ok, Result, ◌==◌, refl}
+use Rattle.std.proofs.Common.{sym, ap, subst, ◌∙◌, arith}
 use Rattle.std.proofs.lemmas.List.{length-take}
 use Rattle.std.proofs.lemmas.Bool.{eq-eqb, not_from_true, not-false, and_parts, and_from, eqb-true}
 use Rattle.permutation.specs.BlockLaws.{length_xors}
 use Rattle.modes.specs.declared.cipher.Usage.TheVariants.{Plate}
+use Rattle.modes.specs.declared.refusal.Refusal.{Refusal}
 use Rattle.modes.specs.Cipher.{base, masked}
 use Rattle.modes.specs.Keys.{bad_key, bad_tag}
 use Rattle.modes.specs.RefusalLaws.{answer_ok, taken_rest, taken_more}
@@ -63,3 +64,6 @@ module _ (forth : List ℕ → List ℕ) (key plate : List ℕ) where
 
     pub exactly_its_mac : ExactlyItsMac forth key plate tag (check_answer forth key plate tag)
     exactly_its_mac = (yes_mac, mac_yes)
+
+    pub exactly_at : (r : Result (Unit {0}) Refusal) → r ≡ check_answer forth key plate tag → ExactlyItsMac forth key plate tag r
+    exactly_at r e = subst (λ a. ExactlyItsMac forth key plate tag a) (sym e) exactly_its_mac

@@ -1,10 +1,10 @@
 // The tweakable cipher: a permutation between two copies of a mask.
 ghost use Rattle.std.specs.Prelude.{◌≡◌, ◌+◌, ◌≤◌, [], ◌∷◌, ◌++◌, length, take, drop, IfOk};
-ghost use Rattle.modes.specs.Cipher.{usage_bytes, header as header_of, base, masked, mask_of, bad_block, tem as enciphered, tem_reverse as deciphered, tem_claims, tem_answer, reverse_answer};
+ghost use Rattle.modes.specs.Cipher.{usage_bytes, header as header_of, base, masked, mask_of, tem as enciphered, tem_reverse as deciphered, tem_claims, tem_answer, reverse_answer};
 ghost use Rattle.modes.specs.Masks.{mask};
 ghost use Rattle.modes.specs.Refusals.{answer};
 
-use crate::keys::{Key, Nonce};
+use crate::keys::{Key, Nonce, array_from};
 use crate::mask::{Mask, xor_blocks};
 use crate::refusal::{Layer, Reason, Refusal};
 use permutation::Permutation;
@@ -85,66 +85,51 @@ impl Mask {
     }
 }
 
-// A block handed in as a slice.
-fn block_from(block: &[u8]) -> Result<[u8; 32], Refusal>
-    ensures { result ≡ answer (bad_block block.now ∷ []) block.now }
-{
-    if block.len() != 32 {
-        return Err(Refusal::new(Layer::Cipher, Reason::BufferLength, 0));
-    }
-    let mut bytes = [0u8; 32];
-    bytes.copy_from_slice(block);
-    Ok(bytes)
+// What the tweakable cipher takes beside its key and a block: the use, the nonce, and the mask's steps and turns.
+#[derive(Clone, Copy)]
+pub struct Tweak<'a> {
+    pub usage: Usage,
+    pub nonce: &'a [u8],
+    pub i: usize,
+    pub j: usize,
 }
 
 // The mask and the block of a call of the tweakable cipher.
 fn prepared<K: Permutation>(
     key: &[u8],
-    usage: Usage,
-    nonce: &[u8],
-    i: usize,
-    j: usize,
+    tweak: Tweak<'_>,
     block: &[u8],
 ) -> Result<(Mask, [u8; 32]), Refusal>
-    ensures { result ≡ answer (tem_claims key.now nonce.now i j block.now) (mask_of (mask i j (base K.Permutation.forth key.now usage nonce.now)), block.now) }
+    ensures { result ≡ answer (tem_claims key.now tweak.entry.nonce.now tweak.entry.i tweak.entry.j block.now) (mask_of (mask tweak.entry.i tweak.entry.j (base K.Permutation.forth key.now tweak.entry.usage tweak.entry.nonce.now)), block.now) }
 {
+    let Tweak { usage, nonce, i, j } = tweak;
     let key = Key::new(key)?;
     let nonce = Nonce::new(nonce)?;
     if i > 8191 || j > 2 || (i == 0 && j == 0) {
         return Err(Refusal::new(Layer::Cipher, Reason::MaskIndex, 0));
     }
-    let bytes = block_from(block)?;
+    let bytes = array_from(block, Reason::BufferLength)?;
     Ok((Mask::base::<K>(key, usage, nonce).at(i, j), bytes))
 }
 
-// The tweakable cipher at mask (i, j): its reverse at the same key, use, nonce, i and j undoes it.
-pub fn tem<K: Permutation>(
-    key: &[u8],
-    usage: Usage,
-    nonce: &[u8],
-    i: usize,
-    j: usize,
-    block: &[u8],
-) -> Result<[u8; 32], Refusal>
-    ensures value { result ≡ tem_answer K.Permutation.forth key.now usage nonce.now i j block.now }
-    ensures undone { IfOk result (λ y. deciphered K.Permutation.forth K.Permutation.back key.now usage nonce.now i j y ≡ block.now) }
+// The tweakable cipher at mask (i, j): its reverse at the same key and tweak undoes it.
+pub fn tem<K: Permutation>(key: &[u8], tweak: Tweak<'_>, block: &[u8]) -> Result<[u8; 32], Refusal>
+    ensures value { result ≡ tem_answer K.Permutation.forth key.now tweak.entry.usage tweak.entry.nonce.now tweak.entry.i tweak.entry.j block.now }
+    ensures undone { IfOk result (λ y. deciphered K.Permutation.forth K.Permutation.back key.now tweak.entry.usage tweak.entry.nonce.now tweak.entry.i tweak.entry.j y ≡ block.now) }
 {
-    let (mask, bytes) = prepared::<K>(key, usage, nonce, i, j, block)?;
+    let (mask, bytes) = prepared::<K>(key, tweak, block)?;
     Ok(mask.encipher::<K>(bytes))
 }
 
 // The reverse of the tweakable cipher, which in its turn is undone by that.
 pub fn tem_reverse<K: Permutation>(
     key: &[u8],
-    usage: Usage,
-    nonce: &[u8],
-    i: usize,
-    j: usize,
+    tweak: Tweak<'_>,
     block: &[u8],
 ) -> Result<[u8; 32], Refusal>
-    ensures value { result ≡ reverse_answer K.Permutation.forth K.Permutation.back key.now usage nonce.now i j block.now }
-    ensures undone { IfOk result (λ y. enciphered K.Permutation.forth key.now usage nonce.now i j y ≡ block.now) }
+    ensures value { result ≡ reverse_answer K.Permutation.forth K.Permutation.back key.now tweak.entry.usage tweak.entry.nonce.now tweak.entry.i tweak.entry.j block.now }
+    ensures undone { IfOk result (λ y. enciphered K.Permutation.forth key.now tweak.entry.usage tweak.entry.nonce.now tweak.entry.i tweak.entry.j y ≡ block.now) }
 {
-    let (mask, bytes) = prepared::<K>(key, usage, nonce, i, j, block)?;
+    let (mask, bytes) = prepared::<K>(key, tweak, block)?;
     Ok(mask.decipher::<K>(bytes))
 }

@@ -1,10 +1,11 @@
 // Keys, nonces and tags: byte strings of a fixed length.
 ghost use Rattle.std.specs.Prelude.{◌≡◌, [], ◌∷◌};
-ghost use Rattle.modes.specs.Keys.{key_of, nonce_of, bad_key, bad_nonce, bad_tag};
+ghost use Rattle.modes.specs.Keys.{key_of, nonce_of, bad_length, bad_key, bad_nonce, bad_tag};
 ghost use Rattle.modes.specs.Refusals.{answer};
 
 use crate::refusal::{Layer, Reason, Refusal};
 
+// Key and nonce stay two types, and not one over the length, so that neither is taken for the other.
 #[derive(Clone, Copy)]
 pub struct Key {
     pub bytes: [u8; 16],
@@ -15,15 +16,21 @@ pub struct Nonce {
     pub bytes: [u8; 13],
 }
 
+// The bytes as an array; a slice of another length is declined for `reason`.
+pub(crate) fn array_from<const N: usize>(bytes: &[u8], reason: Reason) -> Result<[u8; N], Refusal>
+    ensures { result ≡ answer (bad_length N reason bytes.now ∷ []) bytes.now }
+{
+    bytes
+        .try_into()
+        .map_err(|_| Refusal::new(Layer::Cipher, reason, 0))
+}
+
 impl Key {
+    // Stays `new`: as a `TryFrom` it would have its contract in a ghost member, and say no more.
     pub fn new(key: &[u8]) -> Result<Key, Refusal>
         ensures { result ≡ answer (bad_key key.now ∷ []) (key_of key.now) }
     {
-        if key.len() != 16 {
-            return Err(Refusal::new(Layer::Cipher, Reason::KeyLength, 0));
-        }
-        let mut bytes = [0u8; 16];
-        bytes.copy_from_slice(key);
+        let bytes = array_from(key, Reason::KeyLength)?;
         Ok(Key { bytes })
     }
 }
@@ -34,11 +41,7 @@ impl Nonce {
     pub fn new(nonce: &[u8]) -> Result<Nonce, Refusal>
         ensures { result ≡ answer (bad_nonce nonce.now ∷ []) (nonce_of nonce.now) }
     {
-        if nonce.len() != 13 {
-            return Err(Refusal::new(Layer::Cipher, Reason::NonceLength, 0));
-        }
-        let mut bytes = [0u8; 13];
-        bytes.copy_from_slice(nonce);
+        let bytes = array_from(nonce, Reason::NonceLength)?;
         Ok(Nonce { bytes })
     }
 }
@@ -47,10 +50,5 @@ impl Nonce {
 pub fn tag_from(tag: &[u8]) -> Result<[u8; 16], Refusal>
     ensures { result ≡ answer (bad_tag tag.now ∷ []) tag.now }
 {
-    if tag.len() != 16 {
-        return Err(Refusal::new(Layer::Cipher, Reason::TagLength, 0));
-    }
-    let mut bytes = [0u8; 16];
-    bytes.copy_from_slice(tag);
-    Ok(bytes)
+    array_from(tag, Reason::TagLength)
 }

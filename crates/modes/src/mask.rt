@@ -3,6 +3,8 @@ ghost use Rattle.std.specs.Prelude.{◌≡◌};
 ghost use Rattle.permutation.specs.Blocks.{◌⊕◌};
 ghost use Rattle.modes.specs.Masks.{doubled as doubling, step, turn};
 
+use std::array;
+
 // Doubling in the field of 256 elements whose polynomial is 1A3.
 pub fn doubled(b: u8) -> u8
     ensures { result ≡ doubling b }
@@ -14,11 +16,7 @@ pub fn doubled(b: u8) -> u8
 pub fn xor_blocks(x: [u8; 32], y: [u8; 32]) -> [u8; 32]
     ensures { result ≡ x ⊕ y }
 {
-    let mut sum = [0u8; 32];
-    for i in 0..32 {
-        sum[i] = x[i] ^ y[i];
-    }
-    sum
+    array::from_fn(|i| x[i] ^ y[i])
 }
 
 #[derive(Clone, Copy)]
@@ -31,10 +29,8 @@ impl Mask {
         ensures { result.bytes ≡ step self.bytes }
     {
         let old = self.bytes;
-        let mut bytes = [0u8; 32];
-        for i in 0..31 {
-            bytes[i] = old[i + 1];
-        }
+        let mut bytes = [0; 32];
+        bytes[..31].copy_from_slice(&old[1..]);
         bytes[31] = doubled(old[0]);
         bytes[28] ^= old[0];
         bytes[29] ^= old[0];

@@ -9,9 +9,9 @@ use crate::refusal::{Layer, Reason, Refusal};
 use crate::sums::{chained, check_length};
 use permutation::Permutation;
 
-// Whether two tags agree. All sixteen bytes are looked at, so the time tells nothing of where they differ.
-pub fn same_tag(left: [u8; 16], right: [u8; 16]) -> bool
-    ensures { result ≡ same left right }
+// Whether two byte strings agree. Stays a loop: `==` may end at the first difference, and its time would tell where that is.
+pub fn same_bytes<const N: usize>(left: [u8; N], right: [u8; N]) -> bool
+    ensures { result ≡ same left.entry right.entry }
 {
     let mut differing = 0u8;
     for (i, byte) in left.iter().enumerate() {
@@ -24,9 +24,7 @@ pub fn same_tag(left: [u8; 16], right: [u8; 16]) -> bool
 pub fn tag_of(block: [u8; 32]) -> [u8; 16]
     ensures { result ≡ take 16 block }
 {
-    let mut tag = [0u8; 16];
-    tag.copy_from_slice(&block[0..16]);
-    tag
+    *block.first_chunk().unwrap()
 }
 
 fn mac<K: Permutation>(key: Key, plate: &[u8]) -> [u8; 16]
@@ -44,22 +42,16 @@ pub fn plate_mac<K: Permutation>(key: &[u8], plate: &[u8]) -> Result<[u8; 16], R
     Ok(mac::<K>(key, plate))
 }
 
-fn checked<K: Permutation>(key: &[u8], plate: &[u8], tag: &[u8]) -> Result<(), Refusal>
-    ensures { result ≡ check_answer K.Permutation.forth key.now plate.now tag.now }
-{
-    let key = Key::new(key)?;
-    let tag = tag_from(tag)?;
-    check_length(plate)?;
-    if !same_tag(tag, mac::<K>(key, plate)) {
-        return Err(Refusal::new(Layer::Cipher, Reason::TagMismatch, 0));
-    }
-    Ok(())
-}
-
 // Says yes exactly for the tag that `plate_mac` gives for this key and plate.
 pub fn plate_check<K: Permutation>(key: &[u8], plate: &[u8], tag: &[u8]) -> Result<(), Refusal>
     ensures value { result ≡ check_answer K.Permutation.forth key.now plate.now tag.now }
     ensures exactly { ExactlyItsMac K.Permutation.forth key.now plate.now tag.now result }
 {
-    checked::<K>(key, plate, tag)
+    let key = Key::new(key)?;
+    let tag = tag_from(tag)?;
+    check_length(plate)?;
+    if !same_bytes(tag, mac::<K>(key, plate)) {
+        return Err(Refusal::new(Layer::Cipher, Reason::TagMismatch, 0));
+    }
+    Ok(())
 }

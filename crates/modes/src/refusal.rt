@@ -38,7 +38,7 @@ pub enum Layer {
 pub struct Refusal {
     pub reason: Reason,
     pub layer: Layer,
-    // A block, a byte or a length, as the reason has it; 0 where it has none.
+    // A block, a byte or a length, as the reason has it; 0 where it has none. Stays a number: callers are told the 0.
     pub place: usize,
 }
 

@@ -17,12 +17,12 @@ pub const MAX_LABEL: usize = 4096;
 pub fn first_block(text: &[u8]) -> [u8; 32]
     ensures { result ≡ block_at text.now 1 }
 {
-    let mut block = [0u8; 32];
-    let n = text.len().min(32);
-    block[0..n].copy_from_slice(&text[0..n]);
-    if n < 32 {
-        block[n] = 0x80;
+    if let Some(block) = text.first_chunk() {
+        return *block;
     }
+    let mut block = [0; 32];
+    block[..text.len()].copy_from_slice(text);
+    block[text.len()] = 0x80;
     block
 }
 
@@ -43,16 +43,17 @@ pub(crate) fn chained<K: Permutation>(base: Mask, text: &[u8]) -> [u8; 32]
     ensures { result ≡ chain K.Permutation.forth base.bytes text.now }
 {
     let inner = text.len().saturating_sub(1) / 32;
+    let (front, last) = text.split_at(32 * inner);
+    let (blocks, _) = front.as_chunks::<32>();
     let mut mask = base;
     let mut sum = [0u8; 32];
-    for k in 0..inner {
+    for block in blocks {
         let next = mask.stepped();
-        let block = first_block(&text[32 * k..]);
-        let added = xor_blocks(sum, next.encipher::<K>(block));
+        let added = xor_blocks(sum, next.encipher::<K>(*block));
         mask = next;
         sum = added;
     }
-    let total = xor_blocks(sum, first_block(&text[32 * inner..]));
+    let total = xor_blocks(sum, first_block(last));
     ended(mask, text.len()).encipher::<K>(total)
 }
 

@@ -1,6 +1,9 @@
 -- The four bytes of a word, and its eight nibbles.
-use Rattle.std.proofs.Common.{◌≡◌, ℕ, suc, ◌+◌, ◌*◌, ◌/◌, ◌%◌, ◌<◌, List, [], ◌∷◌, get_or, set, sym, ap, ◌∙◌, arith}
-use lib.Seq.{sets}
+use Rattle.std.proofs.Common.{◌≡◌, ℕ, ◌+◌, ◌*◌, ◌/◌, ◌%◌, ◌<◌, ◌≤◌, List, [], ◌∷◌, ◌++◌, length, take, drop, get_or, sym, refl, ◌∙◌, arith}
+use borrow.Rule.Slice.PartMut.{put_mid}
+use Rattle.std.proofs.lemmas.List.{take_all}
+use Rattle.std.proofs.lemmas.List.Edits.{sets, sets-eq}
+use Rattle.std.proofs.lemmas.Slice.{put_mid-paste}
 use Rattle.permutation.specs.Minalpher.{row_from}
 use Rattle.permutation.specs.Packed.{bits, word_row, bytes}
 use Rattle.permutation.specs.Codes.{high, low}
@@ -29,7 +32,7 @@ read_row x n v h e =
     (high x (2 * n + 6) (n + 3) (omega arith)) (low x (2 * n + 7) (n + 3) (omega arith)))
 
 -- the bytes of a word
-joined : (w : ℕ) → (w / 16777216 % 256) ∷ (w / 65536 % 256) ∷ (w / 256 % 256) ∷ (w % 256) ∷ [] ≡ bytes (word_row w)
+pub joined : (w : ℕ) → (w / 16777216 % 256) ∷ (w / 65536 % 256) ∷ (w / 256 % 256) ∷ (w % 256) ∷ [] ≡ bytes (word_row w)
 unfolding bits
 joined w =
     let a : w / 16777216 % 256 ≡ w / 268435456 % 16 * 16 + w / 16777216 % 16 = omega arith in
@@ -38,12 +41,10 @@ joined w =
     let d : w % 256 ≡ w / 16 % 16 * 16 + w / 1 % 16 = omega arith in
     cc
 
-pub write_row : (x : List ℕ) (n w : ℕ) (t : List ℕ)
-    → t ≡ (w / 16777216 % 256) ∷ (w / 65536 % 256) ∷ (w / 256 % 256) ∷ (w % 256) ∷ []
-    → set (set (set (set x n (get_or t 0 0)) (n + 1) (get_or t 1 0)) (n + 2) (get_or t 2 0)) (n + 3) (get_or t 3 0)
-    ≡ sets x n (bytes (word_row w))
-write_row x n w t e =
-    let one : n + 1 ≡ suc n = omega arith in
-    let two : n + 2 ≡ suc (suc n) = omega arith in
-    let three : n + 3 ≡ suc (suc (suc n)) = omega arith in
-    ap (λ u. set (set (set (set x n (get_or u 0 0)) (n + 1) (get_or u 1 0)) (n + 2) (get_or u 2 0)) (n + 3) (get_or u 3 0)) (e ∙ joined w) ∙ cc
+-- a part of a list that is overwritten
+pub put_sets : (x : List ℕ) (n k : ℕ) (ys zs : List ℕ) → ys ≡ zs → length zs ≡ k → n + k ≤ length x → put_mid n k x ys ≡ sets x n zs
+put_sets x n k ys zs e l h =
+    let written : put_mid n k x ys ≡ take n x ++ take k zs ++ drop (n + k) x = put_mid-paste n k x ys zs k e refl (sym l) in
+    let all : take k zs ≡ zs = take_all k zs (omega arith) in
+    let whole : sets x n zs ≡ take n x ++ zs ++ drop (n + length zs) x = sets-eq zs x n (omega arith) in
+    cc

@@ -1,5 +1,4 @@
-mod Fills
-mod Viewed
+mod Mapped
 mod Places
 mod Planes
 mod Bytes

@@ -1,13 +1,15 @@
 -- The bits of a word from a place on: where the operations on words take them from.
 -- A place is mostly a numeral, so what a law asks of it is a test, which computes.
-use Rattle.std.proofs.Common.{◌≡◌, ℕ, ◌+◌, ◌-◌, ◌*◌, ◌/◌, ◌%◌, ◌^◌, ◌<◌, ◌≤◌, true, ◌&&◌, eqb, leb, sym, refl, ap, ◌∙◌, ap₂, ⊎_elim, mul_assoc, arith, pow-add, shr-shr}
+use Rattle.std.proofs.Common.{◌≡◌, ℕ, ◌+◌, ◌-◌, ◌*◌, ◌/◌, ◌%◌, ◌^◌, ◌<◌, ◌≤◌, List, true, ◌&&◌, eqb, leb, sym, refl, ap, ◌∙◌, ap₂, ⊎_elim, mul_assoc, arith, pow-add, shr-shr}
 use native.Mathlib.Nat.{mul-mod_left, zero-div, zero-mod}
 use lib.Bits.{bit_and, bit_or, bit_xor, and_shr, and_mod, or_shr, or_mod, xor_shr, xor_mod, and_zero_r, or_zero_r, and_mask}
 use lib.Pow.{shl-shr, field, mod-mod-pow}
 use Rattle.std.proofs.lemmas.Nat.{mod_below, pow_pos}
 use Rattle.std.proofs.lemmas.Bool.{and_parts, and_from, eqb-true, leb-true, le-leb, cases_lt}
-use Rattle.permutation.specs.Minalpher.{row, xor_row}
+use Rattle.permutation.specs.Minalpher.{row, picked, xor_row}
 use Rattle.permutation.specs.Packed.{bits, word_row}
+use Rattle.permutation.specs.Views.{list_of}
+use Rattle.permutation.specs.declared.rows.IndexList.{IndexList}
 use Rattle.permutation.specs.Rows.{row_at, same_row}
 use Rattle.permutation.specs.BlockLaws.{is_xors}
 
@@ -99,7 +101,7 @@ module _ (w m k : ℕ) where
   mask_clears t = bits_and 4 w m k ∙ ap (bit_and (w / 2 ^ k % 16)) (eqb-true (m / 2 ^ k % 16) 0 t) ∙ and_zero_r (w / 2 ^ k % 16)
 
 -- a rotation to the right takes each nibble from the place s bits above, round the word
-pub rotated : (s w v : ℕ) → (eqb (s % 4) 0 && leb s 32) ≡ true → w < 2 ^ 32 → v ≡ bit_or (w / 2 ^ s) (w * 2 ^ (32 - s) % 2 ^ 32)
+rotated : (s w v : ℕ) → (eqb (s % 4) 0 && leb s 32) ≡ true → w < 2 ^ 32 → v ≡ bit_or (w / 2 ^ s) (w * 2 ^ (32 - s) % 2 ^ 32)
     → word_row v ≡ row (λ j. bits 4 w ((s + (28 - 4 * j)) % 32))
 rotated s w v t h e =
     let both = and_parts (eqb (s % 4) 0) (leb s 32) t in
@@ -120,6 +122,14 @@ rotated s w v t h e =
     (bits_left 4 (32 - s) w k (both_within (32 - s) k (4 + k) 32 (omega arith) (omega arith)))
     ∙ ap (bits 4 w) at)
     (cases_lt (s + k) 32))
+
+-- a list that picks from the rotated word picks what another picks from the word
+pub listed : {l m : IndexList} → l ≡ m → (list : List ℕ) (s w v : ℕ) → (eqb (s % 4) 0 && leb s 32) ≡ true → w < 2 ^ 32
+    → v ≡ bit_or (w / 2 ^ s) (w * 2 ^ (32 - s) % 2 ^ 32)
+    → picked list (row (λ j. bits 4 w ((s + (28 - 4 * j)) % 32))) ≡ picked (list_of m) (word_row w)
+    → picked list (word_row v) ≡ picked (list_of l) (word_row w)
+listed is list s w v t h e same =
+    ap (picked list) (rotated s w v t h e) ∙ same ∙ ap (λ l. picked (list_of l) (word_row w)) (sym is)
 
 pub xor_words : (v w : ℕ) → word_row (bit_xor v w) ≡ xor_row (word_row v) (word_row w)
 xor_words v w =

@@ -3,6 +3,7 @@ pub mod BlockLaws
 pub mod Minalpher
 pub mod Views
 pub mod Packed
+pub mod Kept
 pub mod Inverses
 pub mod Shapes
 pub mod Tables

@@ -4,10 +4,9 @@
 ghost use Rattle.std.specs.Prelude.{◌≡◌, ℕ, List};
 ghost use Rattle.permutation.specs.Blocks.{Inverse};
 
-mod coding;
-mod layers;
 pub mod minalpher;
-mod packing;
+mod nibbles;
+mod rows;
 mod state;
 pub mod words;
 

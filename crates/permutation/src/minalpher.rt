@@ -1,89 +1,57 @@
 // Minalpher-P at any number of rounds.
-ghost use Rattle.std.specs.Prelude.{◌≡◌, ℕ};
+ghost use Rattle.std.specs.Prelude.{◌≡◌, refl};
 ghost use Rattle.permutation.specs.Minalpher.{forward, backward};
 ghost use Rattle.permutation.specs.Inverses;
 
 use crate::Permutation;
+use crate::nibbles::NibbleRow;
+use crate::rows::Row;
 use crate::state::State;
 use std::marker::PhantomData;
 
-// A number of rounds.
-pub trait Rounds {
-    ghost number: { ℕ };
+// A kind that is the permutation itself: it has all of its seventeen rounds.
+pub trait FullRounds: Permutation {
+    ghost full_forth: { Self.Permutation.forth ≡ forward 17 };
 
-    fn count() -> usize
-        ensures { result ≡ number };
+    ghost full_back: { Self.Permutation.back ≡ backward 17 };
 }
 
-#[derive(Clone, Copy)]
-pub struct Seventeen;
-
-#[derive(Clone, Copy)]
-pub struct One;
-
-#[derive(Clone, Copy)]
-pub struct Zero;
-
-impl Rounds for Seventeen {
-    ghost number = { 17 };
-
-    fn count() -> usize {
-        17
-    }
+// The permutation with `ROUNDS` rounds, on rows that are kept as `W`.
+pub struct MinalpherP<W, const ROUNDS: usize> {
+    rows: PhantomData<W>,
 }
 
-impl Rounds for One {
-    ghost number = { 1 };
+impl<W: Row, const ROUNDS: usize> Permutation for MinalpherP<W, ROUNDS> {
+    ghost forth = { forward ROUNDS };
 
-    fn count() -> usize {
-        1
-    }
-}
+    ghost back = { backward ROUNDS };
 
-impl Rounds for Zero {
-    ghost number = { 0 };
+    ghost inverse = { Inverses.inverse ROUNDS };
 
-    fn count() -> usize {
-        0
-    }
-}
-
-fn run_forward(block: [u8; 32], count: usize) -> [u8; 32]
-    ensures { result ≡ forward count block }
-{
-    State::read(&block).rounds(count).closed()
-}
-
-fn run_backward(block: [u8; 32], count: usize) -> [u8; 32]
-    ensures { result ≡ backward count block }
-{
-    State::read(&block).rounds_back(count).closed()
-}
-
-// The permutation with as many rounds as `R` says.
-pub struct Matrices<R> {
-    rounds: PhantomData<R>,
-}
-
-impl<R: Rounds> Permutation for Matrices<R> {
-    ghost forth = { forward R.Rounds.number };
-
-    ghost back = { backward R.Rounds.number };
-
-    ghost inverse = { Inverses.inverse R.Rounds.number };
-
+    #[tactic(auto, unfolding(crate::specs::Minalpher::forward))]
     fn forward(block: [u8; 32]) -> [u8; 32] {
-        run_forward(block, R::count())
+        State::<W>::read(&block).rounds(ROUNDS).closed()
     }
 
+    #[tactic(auto, unfolding(crate::specs::Minalpher::backward))]
     fn backward(block: [u8; 32]) -> [u8; 32] {
-        run_backward(block, R::count())
+        State::<W>::read(&block).rounds_back(ROUNDS).closed()
     }
 }
 
-// The permutation itself, and two short ones for checks by hand.
-pub type Minalpher = Matrices<Seventeen>;
+// On rows of nibbles.
+pub type Matrices<const ROUNDS: usize> = MinalpherP<NibbleRow, ROUNDS>;
 
-pub type OneRound = Matrices<One>;
+// The permutation itself.
+pub type Minalpher = Matrices<17>;
 
-pub type ZeroRounds = Matrices<Zero>;
+impl FullRounds for Minalpher {
+    ghost full_forth = { refl };
+
+    ghost full_back = { refl };
+}
+
+// Two short ones for checks by hand.
+pub type OneRound = Matrices<1>;
+
+pub type ZeroRounds = Matrices<0>;

@@ -1,253 +1,134 @@
-// Minalpher-P on eight words of 32 bits, a row in each.
-ghost use Rattle.std.specs.Prelude.{◌≡◌};
-ghost use Rattle.permutation.specs.Minalpher.{sub_matrix, S, shuffled, unshuffled, T};
-ghost use Rattle.permutation.specs.Minalpher.{xor_matrix, xor_state, mixed, M, E};
-ghost use Rattle.permutation.specs.Minalpher.{state_of, block_of, round, rounds, rounds_back, forward, backward};
-ghost use Rattle.permutation.specs.Packed.{unpacked_matrix, unpacked};
-ghost use Rattle.permutation.specs.Inverses;
+// A row in a word of 32 bits, and the permutation on such rows, with no table and no branch on what a block holds.
+ghost use Rattle.std.specs.Prelude.{◌≡◌, refl};
+ghost use Rattle.permutation.specs.Minalpher.{xor_row};
+ghost use Rattle.permutation.specs.Kept.{nibbles_of};
 
-use crate::Permutation;
-use crate::minalpher::{Rounds, Seventeen};
-use crate::packing::PackedRow;
-use std::marker::PhantomData;
+use crate::minalpher::{FullRounds, MinalpherP};
+use crate::rows::{IndexList, Row};
+use std::ops::BitXor;
 
+// The first nibble is the highest.
 #[derive(Clone, Copy)]
-struct PackedMatrix {
-    r0: PackedRow,
-    r1: PackedRow,
-    r2: PackedRow,
-    r3: PackedRow,
+pub struct WordRow {
+    word: u32,
 }
 
-#[derive(Clone, Copy)]
-struct PackedState {
-    a: PackedMatrix,
-    b: PackedMatrix,
+impl Row for WordRow {
+    ghost nibbles = { nibbles_of };
+
+    #[tactic(auto, using(crate::proofs::Bytes::read_row))]
+    fn read(block: &[u8; 32], at: usize) -> WordRow {
+        WordRow {
+            word: u32::from_be_bytes([block[at], block[at + 1], block[at + 2], block[at + 3]]),
+        }
+    }
+
+    #[tactic(auto, using(crate::proofs::Bytes::put_sets, crate::proofs::Bytes::joined))]
+    fn write(self, block: &mut [u8; 32], at: usize) {
+        block[at..at + 4].copy_from_slice(&self.word.to_be_bytes());
+    }
+
+    #[tactic(auto, unfolding(crate::specs::Packed::bits))]
+    fn zero() -> WordRow {
+        WordRow { word: 0 }
+    }
+
+    // The product has one nibble four times, which are then xored with 0, 1, 2 and 3.
+    fn constant(k: usize, i: u8) -> WordRow {
+        let first = (k % 16) as u32 ^ u32::from(i);
+        WordRow {
+            word: (0x1111_0000 * first) ^ 0x0123_0000,
+        }
+    }
+
+    // S on all nibbles at once. Until the last expression only the lowest bit of each nibble counts: there a, b, c and d
+    // have the bits of the nibble, the lowest in a, and s0 to s3 those of its image. No other bit survives the masks.
+    #[tactic(auto, using(crate::proofs::Planes::substituted))]
+    fn substituted(self) -> WordRow {
+        let a = self.word;
+        let b = a >> 1;
+        let c = a >> 2;
+        let d = a >> 3;
+        let e = a ^ b;
+        let f = c ^ (a & b);
+        let s3 = e ^ (d | f) ^ 0x1111_1111;
+        let g = d ^ s3;
+        let h = a | g;
+        let s0 = (f & g) ^ h;
+        let s1 = (c | s3) ^ (e & h);
+        let s2 = c ^ h ^ (b | s1);
+        WordRow {
+            word: (s0 & 0x1111_1111)
+                | ((s1 << 1) & 0x2222_2222)
+                | ((s2 << 2) & 0x4444_4444)
+                | ((s3 << 3) & 0x8888_8888),
+        }
+    }
+
+    fn picked(self, list: IndexList) -> WordRow {
+        match list {
+            // Bytes 3, 0, 1, 2, and the nibbles of byte 0 change places.
+            IndexList::P1 => {
+                let w = self.word.rotate_right(8);
+                WordRow {
+                    word: (w & 0xFF00_FFFF) | ((w & 0x00F0_0000) >> 4) | ((w & 0x000F_0000) << 4),
+                }
+            }
+            // Bytes 2, 0, 3, 1, and the nibbles of byte 3 change places.
+            IndexList::Q1 => {
+                let w = self.word.rotate_right(16);
+                WordRow {
+                    word: (w & 0xFF00_00FF)
+                        | ((w & 0x0000_FF00) << 8)
+                        | ((w & 0x00F0_0000) >> 12)
+                        | ((w & 0x000F_0000) >> 4),
+                }
+            }
+            // Bytes 1, 2, 3, 0, and the nibbles of byte 1 change places.
+            IndexList::P2 => {
+                let w = self.word.rotate_right(24);
+                WordRow {
+                    word: (w & 0x00FF_FFFF) | ((w & 0xF000_0000) >> 4) | ((w & 0x0F00_0000) << 4),
+                }
+            }
+            // Bytes 1, 3, 0, 2, and the nibbles of byte 2 change places.
+            IndexList::Q2 => {
+                let w = self.word.rotate_right(16);
+                WordRow {
+                    word: (w & 0x00FF_FF00)
+                        | ((w & 0x0000_00FF) << 24)
+                        | ((w & 0xF000_0000) >> 28)
+                        | ((w & 0x0F00_0000) >> 20),
+                }
+            }
+        }
+    }
+
+    ghost can_xor = { λ r t. tt };
+
+    ghost xor_gives = { λ r t u e. e };
 }
 
-impl PackedMatrix {
-    fn substituted(self) -> PackedMatrix
-        ensures { unpacked_matrix result ≡ sub_matrix (unpacked_matrix self) }
-    {
-        PackedMatrix {
-            r0: self.r0.substituted(),
-            r1: self.r1.substituted(),
-            r2: self.r2.substituted(),
-            r3: self.r3.substituted(),
+impl BitXor for WordRow {
+    type Output = WordRow;
+
+    ghost bitxor_gives = { λ r t u. nibbles_of u ≡ xor_row (nibbles_of r) (nibbles_of t) };
+
+    #[tactic(auto, using(crate::proofs::Places::xor_words))]
+    fn bitxor(self, other: WordRow) -> WordRow {
+        WordRow {
+            word: self.word ^ other.word,
         }
-    }
-
-    fn shuffled(self) -> PackedMatrix
-        ensures { unpacked_matrix result ≡ shuffled (unpacked_matrix self) }
-    {
-        PackedMatrix {
-            r0: self.r0.picked_p1(),
-            r1: self.r1.picked_q1(),
-            r2: self.r2.picked_p2(),
-            r3: self.r3.picked_q2(),
-        }
-    }
-
-    // Undoes `shuffled`.
-    fn unshuffled(self) -> PackedMatrix
-        ensures { unpacked_matrix result ≡ unshuffled (unpacked_matrix self) }
-    {
-        PackedMatrix {
-            r0: self.r0.picked_p2(),
-            r1: self.r1.picked_q2(),
-            r2: self.r2.picked_p1(),
-            r3: self.r3.picked_q1(),
-        }
-    }
-
-    fn xor(self, other: PackedMatrix) -> PackedMatrix
-        ensures { unpacked_matrix result ≡ xor_matrix (unpacked_matrix self) (unpacked_matrix other) }
-    {
-        PackedMatrix {
-            r0: self.r0.xor(other.r0),
-            r1: self.r1.xor(other.r1),
-            r2: self.r2.xor(other.r2),
-            r3: self.r3.xor(other.r3),
-        }
-    }
-
-    // Each row is the exclusive or of three of the old rows.
-    fn mixed(self) -> PackedMatrix
-        ensures { unpacked_matrix result ≡ mixed (unpacked_matrix self) }
-    {
-        PackedMatrix {
-            r0: self.r0.xor(self.r1).xor(self.r3),
-            r1: self.r0.xor(self.r1).xor(self.r2),
-            r2: self.r1.xor(self.r2).xor(self.r3),
-            r3: self.r0.xor(self.r2).xor(self.r3),
-        }
-    }
-}
-
-impl PackedState {
-    // The state of a block.
-    fn read(block: &[u8; 32]) -> PackedState
-        ensures { unpacked result ≡ state_of block.now }
-    {
-        PackedState {
-            a: PackedMatrix {
-                r0: PackedRow::read(block, 0),
-                r1: PackedRow::read(block, 4),
-                r2: PackedRow::read(block, 8),
-                r3: PackedRow::read(block, 12),
-            },
-            b: PackedMatrix {
-                r0: PackedRow::read(block, 16),
-                r1: PackedRow::read(block, 20),
-                r2: PackedRow::read(block, 24),
-                r3: PackedRow::read(block, 28),
-            },
-        }
-    }
-
-    // The state's block.
-    fn block(self) -> [u8; 32]
-        ensures { result ≡ block_of (unpacked self) }
-    {
-        let mut block = [0; 32];
-        self.a.r0.write(&mut block, 0);
-        self.a.r1.write(&mut block, 4);
-        self.a.r2.write(&mut block, 8);
-        self.a.r3.write(&mut block, 12);
-        self.b.r0.write(&mut block, 16);
-        self.b.r1.write(&mut block, 20);
-        self.b.r2.write(&mut block, 24);
-        self.b.r3.write(&mut block, 28);
-        block
-    }
-
-    // S: each nibble through the S-box.
-    fn substituted(self) -> PackedState
-        ensures { unpacked result ≡ S (unpacked self) }
-    {
-        PackedState {
-            a: self.a.substituted(),
-            b: self.b.substituted(),
-        }
-    }
-
-    // T: the nibbles of each row change places, and then the matrices do.
-    fn shuffled(self) -> PackedState
-        ensures { unpacked result ≡ T (unpacked self) }
-    {
-        PackedState {
-            a: self.b.unshuffled(),
-            b: self.a.shuffled(),
-        }
-    }
-
-    // M: B becomes A xor B, and then the columns of both are mixed.
-    fn mixed(self) -> PackedState
-        ensures { unpacked result ≡ M (unpacked self) }
-    {
-        PackedState {
-            a: self.a.mixed(),
-            b: self.a.xor(self.b).mixed(),
-        }
-    }
-
-    fn xor(self, other: PackedState) -> PackedState
-        ensures { unpacked result ≡ xor_state (unpacked self) (unpacked other) }
-    {
-        PackedState {
-            a: self.a.xor(other.a),
-            b: self.b.xor(other.b),
-        }
-    }
-
-    // The constant of round `k`.
-    fn constant(k: usize) -> PackedState
-        ensures { unpacked result ≡ E k }
-    {
-        let zero = PackedRow { word: 0 };
-        PackedState {
-            a: PackedMatrix {
-                r0: zero,
-                r1: zero,
-                r2: zero,
-                r3: zero,
-            },
-            b: PackedMatrix {
-                r0: PackedRow::constant(k, 0),
-                r1: PackedRow::constant(k, 1),
-                r2: PackedRow::constant(k, 2),
-                r3: PackedRow::constant(k, 3),
-            },
-        }
-    }
-
-    fn round(self, constant: PackedState) -> PackedState
-        ensures { unpacked result ≡ round (unpacked constant) (unpacked self) }
-    {
-        self.substituted().shuffled().mixed().xor(constant)
-    }
-
-    // The rounds 0 to `count` - 1.
-    fn rounds(self, count: usize) -> PackedState
-        ensures { unpacked result ≡ rounds count (unpacked self) }
-    {
-        let mut state = self;
-        for k in 0..count {
-            state = state.round(PackedState::constant(k));
-        }
-        state
-    }
-
-    // The rounds of the inverse: `count` - 1 down to 0.
-    fn rounds_back(self, count: usize) -> PackedState
-        ensures { unpacked result ≡ rounds_back count (unpacked self) }
-    {
-        let mut state = self;
-        for k in (0..count).rev() {
-            state = state.round(PackedState::constant(k).mixed());
-        }
-        state
-    }
-
-    // What comes after the last round: S and T, and then the state is a block again.
-    fn closed(self) -> [u8; 32]
-        ensures { result ≡ block_of (T (S (unpacked self))) }
-    {
-        self.substituted().shuffled().block()
     }
 }
 
-fn run_forward(block: [u8; 32], count: usize) -> [u8; 32]
-    ensures { result ≡ forward count block }
-{
-    PackedState::read(&block).rounds(count).closed()
+// On rows in words.
+pub type Words<const ROUNDS: usize> = MinalpherP<WordRow, ROUNDS>;
+
+pub type RowWords = Words<17>;
+
+impl FullRounds for RowWords {
+    ghost full_forth = { refl };
+
+    ghost full_back = { refl };
 }
-
-fn run_backward(block: [u8; 32], count: usize) -> [u8; 32]
-    ensures { result ≡ backward count block }
-{
-    PackedState::read(&block).rounds_back(count).closed()
-}
-
-// The permutation of `Matrices<R>`, with no table and no branch on what a block holds.
-pub struct Words<R> {
-    rounds: PhantomData<R>,
-}
-
-impl<R: Rounds> Permutation for Words<R> {
-    ghost forth = { forward R.Rounds.number };
-
-    ghost back = { backward R.Rounds.number };
-
-    ghost inverse = { Inverses.inverse R.Rounds.number };
-
-    fn forward(block: [u8; 32]) -> [u8; 32] {
-        run_forward(block, R::count())
-    }
-
-    fn backward(block: [u8; 32]) -> [u8; 32] {
-        run_backward(block, R::count())
-    }
-}
-
-pub type RowWords = Words<Seventeen>;

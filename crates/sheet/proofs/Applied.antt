@@ -15,9 +15,18 @@ use Rattle.sheet.proofs.Altering.{length_altered, altered_outside}
 use Rattle.sheet.proofs.Layings.{overwritten_laid, lengthened_laid, shortened_laid}
 use Rattle.sheet.proofs.Texts.{length_opened}
 
--- what is taken with no value is taken with any
-pub taken_with : {A : Type 0} (cs : List Claim) (x v : A) → Ok (tt {0}) ≡ answer {A = Unit {0}} cs tt → x ≡ v → Ok x ≡ answer cs v
-taken_with cs x v h e = ap Ok e ∙ sym (answer_ok cs (tt {0}) tt v (sym h)).1
+-- a call that is taken answers the state of its edit, and leaves its blocks
+pub record Worked (claims : List Claim) (c : Cipher) (e : Edit) (s : State) (bs : List (List ℕ)) (after : State) (left : List (List ℕ)) : Type 0 where
+  pub value : Ok after ≡ answer claims (edited c e s bs)
+  pub blocks : left ≡ altered c e bs
+
+-- the edit that was worked is the call's
+pub worked_as : (claims : List Claim) (c : Cipher) (worked e : Edit) (s : State) (bs : List (List ℕ)) (after : State) (left : List (List ℕ))
+    → Ok (tt {0}) ≡ answer {A = Unit {0}} claims tt → worked ≡ e → after ≡ edited c worked s bs → left ≡ altered c worked bs → Worked claims c e s bs after left
+worked_as claims c worked e s bs after left checked same is are = record {
+  value = ap Ok (is ∙ ap (λ x. edited c x s bs) same) ∙ sym (answer_ok claims (tt {0}) tt (edited c e s bs) (sym checked)).1;
+  blocks = are ∙ ap (λ x. altered c x bs) same;
+}
 
 -- the last block of an edit, with no block where the amount is 0
 pub edit_none : (amount first last : ℕ) (new : List ℕ) → amount ≡ 0 → (edit amount first last new).to ≡ (edit amount first last new).from
@@ -29,7 +38,7 @@ edit_some amount first last new z = cond-false (eqb amount 0) first last (ne_eqb
 -- an edit of no block, of a text that stays as long
 module _ (c : Cipher) (e : Edit) (s : State) (bs : List (List ℕ)) (count : length bs ≡ blocks_in s.length) (none : e.to ≡ e.from)
     (same : length e.text ≡ s.length) where
-  pub nothing_altered : bs ≡ altered c e bs
+  nothing_altered : bs ≡ altered c e bs
   nothing_altered =
       let long = length_altered c e bs in
       let fits : length bs ≡ blocks_in (length e.text) = count ∙ ap blocks_in (sym same) in
@@ -40,12 +49,15 @@ module _ (c : Cipher) (e : Edit) (s : State) (bs : List (List ℕ)) (count : len
       away i (inl h) = inl h
       away i (inr h) = inr (omega arith)
 
-  pub nothing_edited : length s.sum ≡ 32 → s ≡ edited c e s bs
+  nothing_edited : length s.sum ≡ 32 → s ≡ edited c e s bs
   nothing_edited size =
       let x = total c bs in
       let sum : s.sum ≡ s.sum ⊕ (total c bs ⊕ total c (altered c e bs)) =
       sym (ap (λ y. s.sum ⊕ (x ⊕ total c y)) (sym nothing_altered) ∙ sym (xors_assoc 32 s.sum x x) ∙ xors_cancel 32 s.sum x size) in
       ap₂ (λ n y. restated s n s.label y) (sym same) sum
+
+  pub nothing_worked : (claims : List Claim) → Ok (tt {0}) ≡ answer {A = Unit {0}} claims tt → length s.sum ≡ 32 → Worked claims c e s bs s bs
+  nothing_worked claims checked size = worked_as claims c e e s bs s bs checked refl (nothing_edited size) nothing_altered
 
 pub edit_path : (a b : Edit) → a.from ≡ b.from → a.to ≡ b.to → a.text ≡ b.text → a ≡ b
 edit_path a b x y z =

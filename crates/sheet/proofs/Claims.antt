@@ -1,7 +1,7 @@
 -- What a call that is taken has found: each of its sentences is false.
-use Rattle.std.proofs.Common.{◌≡◌, ℕ, ◌+◌, ◌≤◌, false, eqb, List, [], ◌∷◌, length, Ok}
+use Rattle.std.proofs.Common.{◌≡◌, ℕ, ◌+◌, ◌<◌, ◌≤◌, false, eqb, List, [], ◌∷◌, length, Ok}
 use Rattle.std.proofs.lemmas.List.{nil_from_length}
-use Rattle.std.proofs.lemmas.Bool.{eqb-true, ltb-false, not-false}
+use Rattle.std.proofs.lemmas.Bool.{eqb-true, leb-false, ltb-false, not-false}
 use Rattle.modes.specs.Keys.{bad_key, bad_nonce}
 use Rattle.modes.specs.Refusals.{answer}
 use Rattle.modes.specs.RefusalLaws.{taken_rest}
@@ -9,6 +9,7 @@ use Rattle.modes.specs.Sums.{too_long}
 use Rattle.sheet.specs.declared.state.State.{State}
 use Rattle.sheet.specs.Calls.{text_too_long, not_empty, miscounted, no_room, past_end, seal_claims}
 use Rattle.sheet.specs.Edits.{past_start, write_claims, append_claims, cut_claims}
+use Rattle.sheet.specs.Holders.{bad_buffer, at_limit, add_answer}
 use Rattle.sheet.specs.Sealing.{blocks_in}
 
 -- a seal that is taken found sizes that are right, the holder empty, and room
@@ -37,6 +38,17 @@ seal_found key nonce label text limit bs v w h =
       none = nil_from_length bs (eqb-true (length bs) 0 (not-false (eqb (length bs) 0) e.0));
       room = ltb-false limit (blocks_in (length text)) r.0;
     }
+
+-- an add that is taken found a block, and room
+pub record AddFound (limit : ℕ) (bs : List (List ℕ)) (x : List ℕ) : Type 0 where
+  pub size : length x ≡ 32
+  pub room : length bs < limit
+
+pub add_found : (limit : ℕ) (bs : List (List ℕ)) (x : List ℕ) → Ok tt ≡ add_answer limit bs x → AddFound limit bs x
+add_found limit bs x h =
+    let b = taken_rest (bad_buffer x) (at_limit limit bs ∷ []) tt tt h in
+    let l = taken_rest (at_limit limit bs) [] tt tt b.1 in
+    record { size = eqb-true (length x) 32 (not-false (eqb (length x) 32) b.0); room = leb-false limit (length bs) l.0 }
 
 counted : (s : State) (bs : List (List ℕ)) → (miscounted s bs).holds ≡ false → length bs ≡ blocks_in s.length
 counted s bs h = eqb-true (length bs) (blocks_in s.length) (not-false (eqb (length bs) (blocks_in s.length)) h)

@@ -1,6 +1,6 @@
 -- Where a text ends in its last block: the function finds the place that the words describe.
-use Rattle.std.proofs.Common.{◌≡◌, ℕ, zero, suc, ◌-◌, ◌<◌, ◌≤◌, true, false, cond, eqb, ◌⊎◌, List, get_or, Some, None, sym, refl, ap, ◌∙◌, inl, inr, ⊎_elim, arith}
-use Rattle.std.proofs.lemmas.Bool.{cases_Bool, cases_order, eqb-true, eq-eqb, ne_eqb, cond-true, cond-false}
+use Rattle.std.proofs.Common.{◌≡◌, ℕ, zero, suc, ◌<◌, ◌≤◌, true, false, cond, eqb, ◌⊎◌, List, get_or, Some, None, sym, ap, ◌∙◌, inl, inr, ⊎_elim, arith}
+use Rattle.std.proofs.lemmas.Bool.{cases_Bool, cases_lt, cases_order, eqb-true, eq-eqb, ne_eqb, cond-true, cond-false}
 use Rattle.sheet.specs.Sealing.{end_within, text_end, Ends}
 
 -- the same below k in place of 32
@@ -68,22 +68,26 @@ pub ends_end : (p : List ℕ) (n : ℕ) → Ends p n → text_end p ≡ Some n
 unfolding text_end
 ends_end p n w = found_end p n 32 (record { inside = w.inside; mark = w.mark; rest = w.rest })
 
--- one byte less to look at
-module _ (p : List ℕ) (k : ℕ) (some : 0 < k) where
-  last_of : end_within p k ≡ cond (eqb (get_or p (k - 1) 0) 0x00) (end_within p (k - 1)) (cond (eqb (get_or p (k - 1) 0) 0x80) (Some (k - 1)) None)
-  unfolding end_within
-  last_of = let place : k ≡ suc (k - 1) = omega arith in ap (end_within p) place
-
-  pub end_at_zero : get_or p (k - 1) 0 ≡ 0x00 → end_within p k ≡ end_within p (k - 1)
-  end_at_zero z = last_of ∙ cond-true _ _ _ (eq-eqb (get_or p (k - 1) 0) 0x00 z)
-
-  pub end_at_mark : get_or p (k - 1) 0 ≡ 0x80 → end_within p k ≡ Some (k - 1)
-  end_at_mark m =
-      last_of ∙ cond-false _ _ _ (ne_eqb (get_or p (k - 1) 0) 0x00 (λ z. omega arith)) ∙ cond-true _ _ _ (eq-eqb (get_or p (k - 1) 0) 0x80 m)
-
-  pub end_at_other : (get_or p (k - 1) 0 ≡ 0x00 → ⊥) → (get_or p (k - 1) 0 ≡ 0x80 → ⊥) → end_within p k ≡ None
-  end_at_other z m = last_of ∙ cond-false _ _ _ (ne_eqb (get_or p (k - 1) 0) 0x00 z) ∙ cond-false _ _ _ (ne_eqb (get_or p (k - 1) 0) 0x80 m)
-
-pub no_end : (p : List ℕ) → end_within p 0 ≡ None
+-- zeros behind the first n bytes do not count
+past_zeros : (p : List ℕ) (n k : ℕ) → n ≤ k → ((j : ℕ) → n ≤ j → j < k → get_or p j 0 ≡ 0x00) → end_within p k ≡ end_within p n
 unfolding end_within
-no_end p = refl
+past_zeros p n zero l z = let none : 0 ≡ n = omega arith in ap (end_within p) none
+past_zeros p n (suc k) l z = go (past_zeros p n k) (cases_lt k n)
+  where
+    go : (n ≤ k → ((j : ℕ) → n ≤ j → j < k → get_or p j 0 ≡ 0x00) → end_within p k ≡ end_within p n) → (k < n) ⊎ (n ≤ k) → end_within p (suc k) ≡ end_within p n
+    go below (inl h) = let all : suc k ≡ n = omega arith in ap (end_within p) all
+    go below (inr h) =
+        cond-true (eqb (get_or p k 0) 0x00) (end_within p k) (cond (eqb (get_or p k 0) 0x80) (Some k) None) (eq-eqb (get_or p k 0) 0x00 (z k h (omega arith)))
+        ∙ below h (λ j a b. z j a (omega arith))
+
+pub end_of_zeros : (p : List ℕ) → ((j : ℕ) → j < 32 → get_or p j 0 ≡ 0x00) → text_end p ≡ None
+unfolding text_end end_within
+end_of_zeros p z = past_zeros p 0 32 (omega arith) (λ j a b. z j b)
+
+-- the last byte that is not zero is the one that counts
+pub end_at_last : (p : List ℕ) (n : ℕ) → n < 32 → (get_or p n 0 ≡ 0x00 → ⊥) → ((j : ℕ) → n < j → j < 32 → get_or p j 0 ≡ 0x00)
+    → text_end p ≡ cond (eqb (get_or p n 0) 0x80) (Some n) None
+unfolding text_end end_within
+end_at_last p n l some z =
+    past_zeros p (suc n) 32 (omega arith) (λ j a b. z j (omega arith) b)
+    ∙ cond-false (eqb (get_or p n 0) 0x00) (end_within p n) (cond (eqb (get_or p n 0) 0x80) (Some n) None) (ne_eqb (get_or p n 0) 0x00 some)

@@ -18,11 +18,6 @@ laid_elsewhere : (at n i : ℕ) → (i < at) ⊎ (at + n ≤ i) → (leb at i &&
 laid_elsewhere at n i (inl h) = and_left (leb at i) (ltb i (at + n)) (lt-leb at i h)
 laid_elsewhere at n i (inr h) = and_right (leb at i) (ltb i (at + n)) (le-ltb i (at + n) h)
 
-pub is_laid_block : (at : ℕ) (d : List ℕ) (n i : ℕ) (plain x : List ℕ) → length x ≡ 32
-    → ((j : ℕ) → j < 32 → get_or x j 0 ≡ laid_byte at d n (32 * i + j) (get_or plain j 0)) → x ≡ laid_block at d n i plain
-unfolding laid_block
-is_laid_block at d n i plain x size f = fill_by_all (λ j. laid_byte at d n (32 * i + j) (get_or plain j 0)) x 32 0 size f
-
 module _ (at : ℕ) (d : List ℕ) (n i : ℕ) (plain : List ℕ) where
   length_laid_block : length (laid_block at d n i plain) ≡ 32
   unfolding laid_block

@@ -10,7 +10,6 @@ pub mod Reopening
 pub mod WorkedSheets
 pub mod Chunking
 pub mod Noting
-pub mod Halves
 pub mod Layings
 pub mod Partials
 pub mod Altering

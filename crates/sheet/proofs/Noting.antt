@@ -5,6 +5,7 @@ use Rattle.std.proofs.lemmas.Bool.{cond-false, eq-eqb, lt-leb, not_from_true}
 use Rattle.modes.specs.declared.refusal.Refusal.{Refusal}
 use Rattle.sheet.specs.Holders.{Sound, add_answer, with_more}
 use Rattle.sheet.specs.Notes.{note_in, beyond, room_beyond, noted}
+use Rattle.sheet.proofs.Claims.{add_found}
 
 pub beyond_sound : (below : List (List ℕ)) → Sound below → Sound (beyond below)
 beyond_sound below s i j = simp (get_or-drop 1 below i []) (s (1 + i) j)
@@ -28,20 +29,20 @@ taken limit bs x size less =
 
 pub record Added (limit : ℕ) (below after : List (List ℕ)) (x : List ℕ) (r : Result (Unit {0}) Refusal) : Type 0 where
   pub ok : r ≡ Ok tt
-  pub answered : add_answer (room_beyond limit) (beyond below) x ≡ Ok tt
   pub list : beyond after ≡ with_more (beyond below) x
   pub note : note_in after ≡ noted below
 
 -- an add above a note that is there, or was just made
 pub added : (limit : ℕ) (below mid after : List (List ℕ)) (x : List ℕ) (r : Result (Unit {0}) Refusal)
-    → length x ≡ 32 → length (beyond below) < room_beyond limit → mid ≡ with_note below
+    → Ok tt ≡ add_answer (room_beyond limit) (beyond below) x → mid ≡ with_note below
     → r ≡ add_answer limit mid x → after ≡ cond (is_ok r) (with_more mid x) mid → Added limit below after x r
-added limit below mid after x r size less is says grown =
-    let ok : r ≡ Ok tt = says ∙ taken limit mid x size (omega (arith, length_noted below, ap length is)) in
+added limit below mid after x r checked is says grown =
+    let found = add_found (room_beyond limit) (beyond below) x checked in
+    let room = found.room in
+    let ok : r ≡ Ok tt = says ∙ taken limit mid x found.size (omega (arith, length_noted below, ap length is)) in
     let all : after ≡ with_more (with_note below) x = grown ∙ ap (λ a. cond (is_ok a) (with_more mid x) mid) ok ∙ ap (λ m. with_more m x) is in
     record {
       ok = ok;
-      answered = taken (room_beyond limit) (beyond below) x size less;
       list = ap beyond all ∙ beyond_noted below x;
       note = ap note_in all ∙ note_noted below x;
     }

@@ -1,9 +1,11 @@
 -- Opening takes what some text seals to, and that text is one.
-use Rattle.std.proofs.Common.{◌≡◌, ℕ, ◌+◌, ◌-◌, ◌*◌, ◌/◌, ◌%◌, ◌<◌, ◌≤◌, true, false, ◌||◌, eqb, ltb, ◌⊎◌, List, [], ◌∷◌, length, get_or, is_some, Some, None, Ok, Option, unwrap_or, sym, refl, ap, ◌∙◌, ap₂, inl, inr, arith}
+use Rattle.std.proofs.Common.{◌≡◌, ℕ, ◌+◌, ◌-◌, ◌*◌, ◌/◌, ◌%◌, ◌<◌, ◌≤◌, true, false, ◌||◌, eqb, ltb, ◌⊎◌, List, [], ◌∷◌, length, get_or, is_some, Some, None, Ok, Option, Result, unwrap_or, sym, refl, ap, ◌∙◌, ap₂, subst, inl, inr, arith}
+use Rattle.std.specs.Result.{OnOk}
 use Rattle.std.proofs.lemmas.List.{get_or_past}
 use Rattle.std.proofs.lemmas.Bool.{cases_lt, cases_order, eq-eqb, eqb-true, le-ltb, ltb-false, ne_eqb, eqb-false, not_from_true, not-false, or_from, or_parts}
 use Rattle.permutation.specs.Blocks.{Block}
 use Rattle.permutation.specs.BlockLaws.{same_entries}
+use Rattle.modes.specs.declared.refusal.Refusal.{Refusal}
 use Rattle.modes.specs.Keys.{bad_key, bad_nonce, bad_tag}
 use Rattle.modes.specs.PlateLaws.{same_true, true_same}
 use Rattle.modes.specs.RefusalLaws.{answer_ok, taken_rest, taken_more}
@@ -183,5 +185,9 @@ module _ (c : Cipher) (key nonce label tag : List ℕ) (bs : List (List ℕ)) (l
       let same_blocks : sealed c t ≡ sealed c u = sym a.blocks_are ∙ b.blocks_are in
       sym (opened_sealed c laws t a.text_bytes) ∙ ap₂ (opened c) same_blocks n ∙ opened_sealed c laws u b.text_bytes
 
-  pub opens_exactly : Blocks bs → OpensExactly c key nonce label tag bs (open_answer c key nonce label tag bs)
-  opens_exactly bl = record { taken_seals = taken_seals bl; seals_taken = seals_taken; one_text = one_text }
+  pub opens_exactly : (r : Result State Refusal) → OnOk r (Blocks bs) → r ≡ open_answer c key nonce label tag bs → OpensExactly c key nonce label tag bs r
+  opens_exactly r bl is = record {
+    taken_seals = λ s h. taken_seals (subst (λ (x : Result State Refusal). OnOk x (Blocks bs)) h bl) s (sym is ∙ h);
+    seals_taken = λ t z. is ∙ seals_taken t z;
+    one_text = one_text;
+  }

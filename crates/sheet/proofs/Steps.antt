@@ -1,10 +1,9 @@
 -- A sheet that stands for a text and a label stands for the edited ones after an edit.
-use Rattle.std.proofs.Common.{◌≡◌, ℕ, ◌+◌, ◌-◌, ◌*◌, ◌/◌, ◌<◌, ◌≤◌, cond, ◌⊎◌, List, [], length, get_or, is_ok, Ok, Err, Result, sym, refl, ap, ◌∙◌, subst, ap₂, inl, inr, arith}
+use Rattle.std.proofs.Common.{◌≡◌, ℕ, ◌+◌, ◌-◌, ◌*◌, ◌/◌, ◌<◌, ◌≤◌, ◌⊎◌, List, [], length, get_or, Ok, sym, refl, ap, ◌∙◌, subst, ap₂, inl, inr, arith}
 use Rattle.std.proofs.lemmas.List.{length-append, get_or_past, take_all}
 use Rattle.std.proofs.lemmas.Bool.{cases_lt, cases_order, ltb-false}
 use Rattle.permutation.specs.Blocks.{◌⊕◌}
 use Rattle.permutation.specs.BlockLaws.{same_entries, xors_comm}
-use Rattle.modes.specs.declared.refusal.Refusal.{Refusal}
 use Rattle.modes.specs.Refusals.{answer}
 use Rattle.modes.specs.RefusalLaws.{taken_rest}
 use Rattle.modes.specs.Sums.{padded_at, block_at, too_long}
@@ -12,7 +11,7 @@ use Rattle.modes.specs.SumLaws.{length_block_at, padded_inside, padded_end, padd
 use Rattle.sheet.specs.declared.state.State.{State}
 use Rattle.sheet.specs.Calls.{under}
 use Rattle.sheet.specs.Ciphers.{Cipher, Lawful}
-use Rattle.sheet.specs.Edits.{Edit, altered, edited, restated, overwritten, lengthened, shortened, write_edit, append_edit, cut_edit, text_in, write_claims, append_claims, cut_claims, relabel_claims, written, written_blocks, appended, appended_blocks, cut_back, cut_blocks, relabelled}
+use Rattle.sheet.specs.Edits.{Edit, altered, edited, restated, overwritten, lengthened, shortened, write_edit, append_edit, cut_edit, text_in, write_claims, append_claims, relabel_claims, written, written_blocks, appended, appended_blocks, cut_back, cut_blocks, relabelled}
 use Rattle.sheet.specs.Laying.{laid_text}
 use Rattle.sheet.specs.Opening.{AllBytes}
 use Rattle.sheet.specs.Sealing.{blocks_in, sealed, total, sum_of, opened}
@@ -209,60 +208,47 @@ module _ (t : List ℕ) (bytes : AllBytes t) where
           let none : length t - n ≡ length t = omega arith in
           same_suits (cut_edit t n) t (take_all (length t - n) t (omega arith)) bytes
 
--- The steps of the calls, taken and declined.
+-- The steps of the calls that are taken.
 module _ (f b : List ℕ → List ℕ) (s : State) (bs : List (List ℕ)) (t text_label : List ℕ) (laws : Lawful (under f b s)) (stands : Stands f b s bs t text_label) where
   -- an edit of what the blocks hold is an edit of the text
   by_edit : (change : List ℕ → Edit) → Suits (change t) t → length (change t).text ≤ 131071
-      → Stands f b (edited (under f b s) (change (text_in (under f b s) s bs)) s bs) (altered (under f b s) (change (text_in (under f b s) s bs)) bs) (change t).text text_label
-  by_edit change suits short =
-      subst (λ x. Stands f b (edited (under f b s) (change x) s bs) (altered (under f b s) (change x) bs) (change t).text text_label)
-      (sym (text_is f b s bs t text_label stands laws)) (edited_stands f b s bs t text_label stands laws (change t) suits short)
+      → (s' : State) (bs' : List (List ℕ)) → s' ≡ edited (under f b s) (change (text_in (under f b s) s bs)) s bs → bs' ≡ altered (under f b s) (change (text_in (under f b s) s bs)) bs
+      → Stands f b s' bs' (change t).text text_label
+  by_edit change suits short s' bs' is are =
+      let texts = text_is f b s bs t text_label stands laws in
+      subst (λ x. Stands f b x bs' (change t).text text_label) (sym (is ∙ ap (λ x. edited (under f b s) (change x) s bs) texts))
+      (subst (λ x. Stands f b (edited (under f b s) (change t) s bs) x (change t).text text_label) (sym (are ∙ ap (λ x. altered (under f b s) (change x) bs) texts))
+      (edited_stands f b s bs t text_label stands laws (change t) suits short))
 
-  pub write_step : (at : ℕ) (d : List ℕ) → AllBytes d → (r : Result (Unit {0}) Refusal) → r ≡ answer (write_claims s bs at (length d)) tt
-      → (s' : State) (bs' : List (List ℕ)) → s' ≡ cond (is_ok r) (written (under f b s) s bs at d) s → bs' ≡ cond (is_ok r) (written_blocks (under f b s) s bs at d) bs
-      → Stands f b s' bs' (cond (is_ok r) (overwritten t at d) t) text_label
-  write_step at d given (Ok u) says s' bs' is are =
-      let found = range_found s bs at (length d) tt u says in
+  pub write_step : (at : ℕ) (d : List ℕ) → AllBytes d → Ok (tt {0}) ≡ answer {A = Unit {0}} (write_claims s bs at (length d)) tt
+      → (s' : State) (bs' : List (List ℕ)) → s' ≡ written (under f b s) s bs at d → bs' ≡ written_blocks (under f b s) s bs at d
+      → Stands f b s' bs' (overwritten t at d) text_label
+  write_step at d given says =
+      let found = range_found s bs at (length d) tt tt says in
       let fits : at + length d ≤ length t = omega (arith, found.within, length_is f b s bs t text_label stands) in
-      subst (λ x. Stands f b x bs' (overwritten t at d) text_label) (sym is)
-      (subst (λ x. Stands f b (written (under f b s) s bs at d) x (overwritten t at d) text_label) (sym are)
-      (by_edit (λ x. write_edit x at d) (write_suits t stands.seals.text_bytes at d fits given) (omega (arith, length_overwritten t at d fits, stands.seals.text_short))))
-  write_step at d given (Err e) says s' bs' is are =
-      subst (λ x. Stands f b x bs' t text_label) (sym is) (subst (λ x. Stands f b s x t text_label) (sym are) stands)
+      by_edit (λ x. write_edit x at d) (write_suits t stands.seals.text_bytes at d fits given) (omega (arith, length_overwritten t at d fits, stands.seals.text_short))
 
-  pub append_step : (d : List ℕ) (limit : ℕ) → AllBytes d → (r : Result (Unit {0}) Refusal) → r ≡ answer (append_claims s limit bs (length d)) tt
-      → (s' : State) (bs' : List (List ℕ)) → s' ≡ cond (is_ok r) (appended (under f b s) s bs d) s → bs' ≡ cond (is_ok r) (appended_blocks (under f b s) s bs d) bs
-      → Stands f b s' bs' (cond (is_ok r) (lengthened t d) t) text_label
-  append_step d limit given (Ok u) says s' bs' is are =
-      let found = append_found s limit bs (length d) tt u says in
-      subst (λ x. Stands f b x bs' (lengthened t d) text_label) (sym is)
-      (subst (λ x. Stands f b (appended (under f b s) s bs d) x (lengthened t d) text_label) (sym are)
-      (by_edit (λ x. append_edit x d) (append_suits t stands.seals.text_bytes d given)
-      (omega (arith, length-append t d, found.short, length_is f b s bs t text_label stands))))
-  append_step d limit given (Err e) says s' bs' is are =
-      subst (λ x. Stands f b x bs' t text_label) (sym is) (subst (λ x. Stands f b s x t text_label) (sym are) stands)
+  pub append_step : (d : List ℕ) (limit : ℕ) → AllBytes d → Ok (tt {0}) ≡ answer {A = Unit {0}} (append_claims s limit bs (length d)) tt
+      → (s' : State) (bs' : List (List ℕ)) → s' ≡ appended (under f b s) s bs d → bs' ≡ appended_blocks (under f b s) s bs d
+      → Stands f b s' bs' (lengthened t d) text_label
+  append_step d limit given says =
+      let found = append_found s limit bs (length d) tt tt says in
+      by_edit (λ x. append_edit x d) (append_suits t stands.seals.text_bytes d given)
+      (omega (arith, length-append t d, found.short, length_is f b s bs t text_label stands))
 
-  pub cut_step : (n : ℕ) → (r : Result (Unit {0}) Refusal) → r ≡ answer (cut_claims s bs n) tt
-      → (s' : State) (bs' : List (List ℕ)) → s' ≡ cond (is_ok r) (cut_back (under f b s) s bs n) s → bs' ≡ cond (is_ok r) (cut_blocks (under f b s) s bs n) bs
-      → Stands f b s' bs' (cond (is_ok r) (shortened t n) t) text_label
-  cut_step n (Ok u) says s' bs' is are =
-      subst (λ x. Stands f b x bs' (shortened t n) text_label) (sym is)
-      (subst (λ x. Stands f b (cut_back (under f b s) s bs n) x (shortened t n) text_label) (sym are)
-      (by_edit (λ x. cut_edit x n) (cut_suits t stands.seals.text_bytes n) (omega (arith, length_shortened t n, stands.seals.text_short))))
-  cut_step n (Err e) says s' bs' is are =
-      subst (λ x. Stands f b x bs' t text_label) (sym is) (subst (λ x. Stands f b s x t text_label) (sym are) stands)
+  pub cut_step : (n : ℕ) (s' : State) (bs' : List (List ℕ)) → s' ≡ cut_back (under f b s) s bs n → bs' ≡ cut_blocks (under f b s) s bs n
+      → Stands f b s' bs' (shortened t n) text_label
+  cut_step n = by_edit (λ x. cut_edit x n) (cut_suits t stands.seals.text_bytes n) (omega (arith, length_shortened t n, stands.seals.text_short))
 
 -- a label needs no block, and the cipher no law
 pub relabel_step : (f b : List ℕ → List ℕ) (s : State) (bs : List (List ℕ)) (t text_label new : List ℕ) → Stands f b s bs t text_label
-    → (r : Result (Unit {0}) Refusal) → r ≡ answer (relabel_claims new) tt → (s' : State) → s' ≡ cond (is_ok r) (relabelled (under f b s) s new) s
-    → Stands f b s' bs t (cond (is_ok r) new text_label)
-relabel_step f b s bs t text_label new stands (Ok u) says s' is =
+    → Ok (tt {0}) ≡ answer {A = Unit {0}} (relabel_claims new) tt → (s' : State) → s' ≡ relabelled (under f b s) s new → Stands f b s' bs t new
+relabel_step f b s bs t text_label new stands says s' is =
     let c = under f b s in
-    let short = taken_rest (too_long new) [] tt u says in
+    let short = taken_rest (too_long new) [] tt tt says in
     let blocks = total c (sealed c t) in
     standing f b s bs t text_label stands t new bs s' stands.seals.text_bytes stands.seals.text_short (ltb-false 4096 (length new) short.0) stands.seals.blocks_are
     (is
     ∙ state_path s _ _ _ _ _ _ (length_is f b s bs t text_label stands) refl
     (ap₂ (λ x y. x ⊕ (y ⊕ c.label_sum new)) (sum_is f b s bs t text_label stands) (label_is f b s bs t text_label stands)
     ∙ xor_front (c.label_sum text_label) blocks (c.label_sum new) ∙ xors_comm 32 blocks (c.label_sum new)))
-relabel_step f b s bs t text_label new stands (Err e) says s' is = subst (λ x. Stands f b x bs t text_label) (sym is) stands

@@ -1,6 +1,6 @@
 -- The worked values, computed, and the two refusals that belong to them.
-use Rattle.std.proofs.Common.{◌≡◌, ℕ, zero, suc, ◌+◌, ◌-◌, ◌<◌, ◌≤◌, not, eqb, ltb, ◌⊎◌, List, [], ◌∷◌, length, get_or, is_some, None, Err, refl, ap, ◌∙◌, inl, inr, arith}
-use Rattle.std.proofs.lemmas.Bool.{cases_lt, cond-true, eq-eqb, ne_eqb, lt-ltb, le-ltb, not_from_true, not_from_false, or_from}
+use Rattle.std.proofs.Common.{◌≡◌, ℕ, ◌<◌, ◌≤◌, not, eqb, ltb, List, [], ◌∷◌, length, get_or, is_some, None, Err, refl, ap, ◌∙◌, arith}
+use Rattle.std.proofs.lemmas.Bool.{cond-true, cond-false, eq-eqb, ne_eqb, lt-ltb, le-ltb, not_from_true, not_from_false, or_from}
 use Rattle.permutation.specs.Blocks.{xors}
 use Rattle.permutation.specs.Minalpher.{forward, rounds, round}
 use Rattle.modes.specs.Cipher.{base, masked}
@@ -15,24 +15,10 @@ use Rattle.sheet.specs.Calls.{text_too_long, not_empty, no_room, no_blocks, wron
 use Rattle.sheet.specs.Ciphers.{Cipher}
 use Rattle.sheet.specs.Sealing.{sealed, adds, total, tag_of, end_within, text_end}
 use Rattle.sheet.specs.Worked.{WorkedValues}
-use Rattle.sheet.proofs.Ending.{end_at_zero, end_at_other}
-
--- zeros from n + 1 up to k hang on byte n
-past_zeros : (p : List ℕ) (n k : ℕ) → n < k → ((j : ℕ) → n < j → j < k → get_or p j 0 ≡ 0x00) → end_within p k ≡ end_within p (n + 1)
-past_zeros p n zero l z = absurd (omega arith)
-past_zeros p n (suc k) l z = go (past_zeros p n k) (cases_lt n k)
-  where
-    go : (n < k → ((j : ℕ) → n < j → j < k → get_or p j 0 ≡ 0x00) → end_within p k ≡ end_within p (n + 1)) → (n < k) ⊎ (k ≤ n) → end_within p (suc k) ≡ end_within p (n + 1)
-    go below (inl h) =
-        let less : suc k - 1 ≡ k = omega arith in
-        end_at_zero p (suc k) (omega arith) (ap (λ i. get_or p i 0) less ∙ z k h (omega arith)) ∙ ap (end_within p) less ∙ below h (λ j a b. z j a (omega arith))
-    go below (inr h) = let same_place : suc k ≡ n + 1 = omega arith in ap (end_within p) same_place
+use Rattle.sheet.proofs.Ending.{end_at_last}
 
 forty : (p : List ℕ) (n : ℕ) → n < 32 → get_or p n 0 ≡ 0x40 → ((j : ℕ) → n < j → j < 32 → get_or p j 0 ≡ 0x00) → text_end p ≡ None
-unfolding text_end
-forty p n l m z =
-    let here : get_or p (n + 1 - 1) 0 ≡ 0x40 = (let place : n + 1 - 1 ≡ n = omega arith in ap (λ i. get_or p i 0) place ∙ m) in
-    past_zeros p n 32 l z ∙ end_at_other p (n + 1) (omega arith) (λ e. omega arith) (λ e. omega arith)
+forty p n l m z = end_at_last p n l (λ e. omega arith) z ∙ cond-false _ _ _ (ne_eqb (get_or p n 0) 0x80 (λ e. omega arith))
 
 too_long_by_one : (c : Cipher) (key nonce label text : List ℕ) (limit : ℕ) (bs : List (List ℕ))
     → length key ≡ 16 → length nonce ≡ 13 → length label ≤ 4096 → length text ≡ 131072

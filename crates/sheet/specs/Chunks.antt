@@ -1,10 +1,10 @@
 -- Bytes as blocks of 32, one after the other.
-use Rattle.std.specs.Prelude.{ℕ, zero, suc, ◌+◌, ◌*◌, ◌/◌, min, List, [], ◌∷◌, ◌++◌, length, take, drop}
+use Rattle.std.specs.Prelude.{ℕ, ◌+◌, ◌*◌, ◌/◌, min, List, ◌++◌, length, take, drop}
+use Rattle.std.specs.Simd.{first_chunks}
 
 -- the first n blocks of bytes
 abbrev pub chunks : ℕ → List ℕ → List (List ℕ)
-chunks zero bytes = []
-chunks (suc n) bytes = take 32 bytes ∷ chunks n (drop 32 bytes)
+chunks n bytes = first_chunks 32 n bytes
 
 -- how many blocks bytes have room for
 abbrev pub room_of : List ℕ → ℕ

@@ -22,14 +22,22 @@ Sound bs = (i j : ℕ) → slice_index (slice_index_or bs i []) j < 256
 abbrev pub bad_buffer : List ℕ → Claim
 bad_buffer x = claim (not (length x == 32)) (refusal Holder BufferLength 0)
 
+-- k is the number of none of n blocks
+abbrev pub none_of : ℕ → ℕ → Claim
+none_of n k = claim (k == 0 || nat_lt n k) (refusal Holder NoSuchBlock k)
+
 abbrev pub no_such_block : List (List ℕ) → ℕ → Claim
-no_such_block bs k = claim (k == 0 || nat_lt (length bs) k) (refusal Holder NoSuchBlock k)
+no_such_block bs k = none_of (length bs) k
 
 abbrev pub none_left : List (List ℕ) → Claim
 none_left bs = claim (length bs == 0) (refusal Holder NoSuchBlock 0)
 
 abbrev pub at_limit : ℕ → List (List ℕ) → Claim
 at_limit limit bs = claim (nat_le limit (length bs)) (refusal Holder Limit 0)
+
+-- block k by value
+abbrev pub block_answer : List (List ℕ) → ℕ → Result (List ℕ) Refusal
+block_answer bs k = answer (no_such_block bs k ∷ []) (block bs k)
 
 -- copying out block k into a buffer, or putting a buffer in its place
 abbrev pub place_answer : List (List ℕ) → ℕ → List ℕ → Result (Unit {0}) Refusal

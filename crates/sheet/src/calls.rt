@@ -4,56 +4,49 @@ ghost use Rattle.modes.specs.Refusals.{answer};
 ghost use Rattle.sheet.specs.Calls.{seal_answer, open_answer, read_answer, read_bytes, tag_answer, under};
 ghost use Rattle.sheet.specs.Ciphers.{cipher_of};
 ghost use Rattle.sheet.specs.Edits.{overwritten, lengthened, shortened, write_claims, append_claims, cut_claims, relabel_claims, written, written_blocks, appended, appended_blocks, cut_back, cut_blocks, relabelled};
-ghost use Rattle.sheet.specs.Holders.{Sound};
 ghost use Rattle.sheet.specs.Opening.{OpensExactly, Reopens};
 ghost use Rattle.sheet.specs.Sealing.{sealed};
 ghost use Rattle.sheet.specs.Sheets.{stated};
 ghost use Rattle.sheet.specs.Standing.{Stands};
 
-use crate::changing::{append_state, cut_state, relabel_state, write_state};
+use crate::context::Context;
 use crate::holder::{ReadBlocks, WriteBlocks};
-use crate::opening::open_state;
-use crate::reading::{read_state, tag_of_state};
-use crate::sealing::seal_state;
 use crate::sheet::Sheet;
+use crate::state::State;
 use modes::refusal::Refusal;
 use permutation::Permutation;
 use std::marker::PhantomData;
 
 impl<K: Permutation> Sheet<K> {
-    // Seals a text under a key, a nonce and a label into an empty holder.
+    // Seals a text under a context into an empty holder.
     pub fn seal<H: WriteBlocks>(
-        key: &[u8],
-        nonce: &[u8],
-        label: &[u8],
+        context: Context<'_>,
         text: &[u8],
         h: &mut H,
     ) -> Result<Sheet<K>, Refusal>
-        ensures value { stated result ≡ seal_answer (cipher_of K.Permutation.forth K.Permutation.back key.now nonce.now) key.now nonce.now label.now text.now (H.ReadBlocks.room h.old) (H.ReadBlocks.list h.old) }
-        ensures after { H.ReadBlocks.list h.new ≡ (if is_ok result then sealed (cipher_of K.Permutation.forth K.Permutation.back key.now nonce.now) text.now else H.ReadBlocks.list h.old) }
+        ensures value { stated result ≡ seal_answer (cipher_of K.Permutation.forth K.Permutation.back context.entry.key.now context.entry.nonce.now) context.entry.key.now context.entry.nonce.now context.entry.label.now text.now (H.ReadBlocks.room h.old) (H.ReadBlocks.list h.old) }
+        ensures after { H.ReadBlocks.list h.new ≡ (if is_ok result then sealed (cipher_of K.Permutation.forth K.Permutation.back context.entry.key.now context.entry.nonce.now) text.now else H.ReadBlocks.list h.old) }
         ensures same_room { H.ReadBlocks.room h.new ≡ H.ReadBlocks.room h.old }
         ensures untouched { is_ok result ≡ false → h.new ≡ h.old }
-        ensures reopens { IfOk result (λ s. Reopens (cipher_of K.Permutation.forth K.Permutation.back key.now nonce.now) key.now nonce.now label.now text.now (H.ReadBlocks.list h.new) s.state) }
+        ensures reopens { IfOk result (λ s. Reopens (cipher_of K.Permutation.forth K.Permutation.back context.entry.key.now context.entry.nonce.now) context.entry.key.now context.entry.nonce.now context.entry.label.now text.now (H.ReadBlocks.list h.new) s.state) }
     {
-        let state = seal_state::<K, H>(key, nonce, label, text, h)?;
+        let state = State::seal::<K, H>(context, text, h)?;
         Ok(Sheet {
             state,
             kind: PhantomData,
         })
     }
 
-    // Opens what a holder has under a key, a nonce, a label and a tag.
-    pub fn open<R: ReadBlocks>(
-        key: &[u8],
-        nonce: &[u8],
-        label: &[u8],
-        tag: &[u8],
-        h: &R,
-    ) -> Result<Sheet<K>, Refusal>
-        ensures value { stated result ≡ open_answer (cipher_of K.Permutation.forth K.Permutation.back key.now nonce.now) key.now nonce.now label.now tag.now (R.ReadBlocks.list h.now) }
-        ensures exactly { OpensExactly (cipher_of K.Permutation.forth K.Permutation.back key.now nonce.now) key.now nonce.now label.now tag.now (R.ReadBlocks.list h.now) (stated result) }
+    // Opens what a holder has under a context and a tag.
+    pub fn open<R: ReadBlocks>(context: Context<'_>, tag: &[u8], h: &R) -> Result<Sheet<K>, Refusal>
+        ensures value { stated result ≡ open_answer (cipher_of K.Permutation.forth K.Permutation.back context.entry.key.now context.entry.nonce.now) context.entry.key.now context.entry.nonce.now context.entry.label.now tag.now (R.ReadBlocks.list h.now) }
+        ensures exactly { OpensExactly (cipher_of K.Permutation.forth K.Permutation.back context.entry.key.now context.entry.nonce.now) context.entry.key.now context.entry.nonce.now context.entry.label.now tag.now (R.ReadBlocks.list h.now) (stated result) }
     {
-        opened_sheet::<K, R>(key, nonce, label, tag, h)
+        let state = State::open::<K, R>(context, tag, h)?;
+        Ok(Sheet {
+            state,
+            kind: PhantomData,
+        })
     }
 
     // Overwrites bytes from a position.
@@ -70,8 +63,7 @@ impl<K: Permutation> Sheet<K> {
         ensures untouched { is_ok result ≡ false → h.new ≡ h.old }
         ensures stands { (text text_label : List ℕ) → Stands K.Permutation.forth K.Permutation.back self.old.state (H.ReadBlocks.list h.old) text text_label → Stands K.Permutation.forth K.Permutation.back self.new.state (H.ReadBlocks.list h.new) (if is_ok result then overwritten text at bytes.now else text) text_label }
     {
-        let state = write_state::<K, H>(self.state, h, at, bytes)?;
-        self.state = state;
+        self.state = self.state.write::<K, H>(h, at, bytes)?;
         Ok(())
     }
 
@@ -84,8 +76,7 @@ impl<K: Permutation> Sheet<K> {
         ensures untouched { is_ok result ≡ false → h.new ≡ h.old }
         ensures stands { (text text_label : List ℕ) → Stands K.Permutation.forth K.Permutation.back self.old.state (H.ReadBlocks.list h.old) text text_label → Stands K.Permutation.forth K.Permutation.back self.new.state (H.ReadBlocks.list h.new) (if is_ok result then lengthened text bytes.now else text) text_label }
     {
-        let state = append_state::<K, H>(self.state, h, bytes)?;
-        self.state = state;
+        self.state = self.state.append::<K, H>(h, bytes)?;
         Ok(())
     }
 
@@ -98,8 +89,7 @@ impl<K: Permutation> Sheet<K> {
         ensures untouched { is_ok result ≡ false → h.new ≡ h.old }
         ensures stands { (text text_label : List ℕ) → Stands K.Permutation.forth K.Permutation.back self.old.state (H.ReadBlocks.list h.old) text text_label → Stands K.Permutation.forth K.Permutation.back self.new.state (H.ReadBlocks.list h.new) (if is_ok result then shortened text amount else text) text_label }
     {
-        let state = cut_state::<K, H>(self.state, h, amount)?;
-        self.state = state;
+        self.state = self.state.cut::<K, H>(h, amount)?;
         Ok(())
     }
 
@@ -109,8 +99,7 @@ impl<K: Permutation> Sheet<K> {
         ensures state { self.new.state ≡ (if is_ok result then relabelled (under K.Permutation.forth K.Permutation.back self.old.state) self.old.state label.now else self.old.state) }
         ensures stands { (bs : List (List ℕ)) (text text_label : List ℕ) → Stands K.Permutation.forth K.Permutation.back self.old.state bs text text_label → Stands K.Permutation.forth K.Permutation.back self.new.state bs text (if is_ok result then label.now else text_label) }
     {
-        let state = relabel_state::<K>(self.state, label)?;
-        self.state = state;
+        self.state = self.state.relabel::<K>(label)?;
         Ok(())
     }
 
@@ -119,14 +108,14 @@ impl<K: Permutation> Sheet<K> {
         ensures value { result ≡ read_answer self.now.state (R.ReadBlocks.list h.now) at (length out.old) }
         ensures copied { out.new ≡ (if is_ok result then read_bytes (under K.Permutation.forth K.Permutation.back self.now.state) self.now.state (R.ReadBlocks.list h.now) at (length out.old) else out.old) }
     {
-        read_state::<K, R>(self.state, h, at, out)
+        self.state.read::<K, R>(h, at, out)
     }
 
     // The tag of the sheet as it is; never declined.
     pub fn tag(&self) -> [u8; 16]
         ensures { result ≡ tag_answer (under K.Permutation.forth K.Permutation.back self.now.state) self.now.state }
     {
-        tag_of_state::<K>(self.state)
+        self.state.tag::<K>()
     }
 
     // The length of the text in bytes.
@@ -135,22 +124,4 @@ impl<K: Permutation> Sheet<K> {
     {
         self.state.length
     }
-}
-
-fn opened_sheet<K: Permutation, R: ReadBlocks>(
-    key: &[u8],
-    nonce: &[u8],
-    label: &[u8],
-    tag: &[u8],
-    h: &R,
-) -> Result<Sheet<K>, Refusal>
-    ensures value { stated result ≡ open_answer (cipher_of K.Permutation.forth K.Permutation.back key.now nonce.now) key.now nonce.now label.now tag.now (R.ReadBlocks.list h.now) }
-    ensures bytes { Sound (R.ReadBlocks.list h.now) }
-{
-    let _ = h.count();
-    let state = open_state::<K, R>(key, nonce, label, tag, h)?;
-    Ok(Sheet {
-        state,
-        kind: PhantomData,
-    })
 }

@@ -8,10 +8,10 @@ ghost use Rattle.sheet.specs.Laying.{laid_byte, laid_block, part_total, resealed
 
 use crate::held::{add_block, drop_to, held_block, put_block};
 use crate::holder::{ReadBlocks, WriteBlocks};
-use crate::state::State;
-use modes::cipher::Usage;
+use crate::state::{State, block_count};
 use modes::mask::{Mask, xor_blocks};
 use permutation::Permutation;
+use std::array;
 
 // What an edit makes of a text: `bytes` from `at` on, and `length` bytes in all.
 #[derive(Clone, Copy)]
@@ -21,32 +21,30 @@ pub struct Edit<'a> {
     pub length: usize,
 }
 
-// Byte i of the padded text after an edit, where `old` stood.
-fn byte_after(edit: Edit<'_>, i: usize, old: u8) -> u8
-    ensures { result ≡ laid_byte edit.entry.at edit.entry.bytes.now edit.entry.length i old }
-{
-    if i > edit.length {
-        return 0x00;
+impl<'a> Edit<'a> {
+    // Byte i of the padded text afterwards, where `old` stood.
+    fn byte(self, i: usize, old: u8) -> u8
+        ensures { result ≡ laid_byte self.entry.at self.entry.bytes.now self.entry.length i old }
+    {
+        if i > self.length {
+            return 0x00;
+        }
+        if i == self.length {
+            return 0x80;
+        }
+        if i >= self.at && i - self.at < self.bytes.len() {
+            return self.bytes[i - self.at];
+        }
+        old
     }
-    if i == edit.length {
-        return 0x80;
-    }
-    if i >= edit.at && i - edit.at < edit.bytes.len() {
-        return edit.bytes[i - edit.at];
-    }
-    old
-}
 
-// The padded block which i others stand before, after an edit, where `plain` stood.
-fn block_after(edit: Edit<'_>, i: usize, plain: [u8; 32]) -> [u8; 32]
-    requires { i < 4096 }
-    ensures { result ≡ laid_block edit.entry.at edit.entry.bytes.now edit.entry.length i plain }
-{
-    let mut block = [0u8; 32];
-    for j in 0..32 {
-        block[j] = byte_after(edit, 32 * i + j, plain[j]);
+    // The padded block which i others stand before, afterwards, where `plain` stood.
+    fn block(self, i: usize, plain: [u8; 32]) -> [u8; 32]
+        requires { i < 4096 }
+        ensures { result ≡ laid_block self.entry.at self.entry.bytes.now self.entry.length i plain }
+    {
+        array::from_fn(|j| self.byte(32 * i + j, plain[j]))
     }
-    block
 }
 
 // What a block adds to the sum, at the mask that it adds itself at; the last is added bare.
@@ -87,10 +85,10 @@ fn reseal_block<K: Permutation, H: WriteBlocks>(odd: Mask, h: &mut H, i: usize, 
 {
     if i < h.count() {
         let plain = odd.decipher::<K>(held_block(h, i + 1));
-        let block = odd.encipher::<K>(block_after(edit, i, plain));
+        let block = odd.encipher::<K>(edit.block(i, plain));
         put_block(h, i + 1, block);
     } else {
-        let block = odd.encipher::<K>(block_after(edit, i, [0; 32]));
+        let block = odd.encipher::<K>(edit.block(i, [0; 32]));
         add_block(h, block);
     }
 }
@@ -115,30 +113,32 @@ fn reseal<K: Permutation, H: WriteBlocks>(
     }
 }
 
-// Works an edit: the blocks after the first at / 32 change, up to number `old_end` of the blocks before and up to
-// `new_end` of those after, and blocks beyond the new text are dropped.
-pub(crate) fn edit_state<K: Permutation, H: WriteBlocks>(
-    state: State,
-    h: &mut H,
-    edit: Edit<'_>,
-    old_end: usize,
-    new_end: usize,
-) -> State
-    requires { Workable state (H.ReadBlocks.list h.old) (H.ReadBlocks.room h.old) edit.at edit.bytes.now edit.length old_end new_end }
-    ensures value { result ≡ edited (under K.Permutation.forth K.Permutation.back state) (laid_edit (under K.Permutation.forth K.Permutation.back state) state (H.ReadBlocks.list h.old) edit.entry.at edit.entry.bytes.now edit.entry.length new_end) state (H.ReadBlocks.list h.old) }
-    ensures after { H.ReadBlocks.list h.new ≡ altered (under K.Permutation.forth K.Permutation.back state) (laid_edit (under K.Permutation.forth K.Permutation.back state) state (H.ReadBlocks.list h.old) edit.entry.at edit.entry.bytes.now edit.entry.length new_end) (H.ReadBlocks.list h.old) }
-    ensures same_room { H.ReadBlocks.room h.new ≡ H.ReadBlocks.room h.old }
-{
-    let from = edit.at / 32;
-    let start = Mask::base::<K>(state.key, Usage::Text, state.nonce).at(2 * from, 0);
-    let given = part_adds::<K, H>(start, h, from, old_end);
-    reseal::<K, H>(start, h, from, new_end, edit);
-    drop_to(h, edit.length / 32 + 1);
-    let taken = part_adds::<K, H>(start, h, from, new_end);
-    let change = xor_blocks(given, taken);
-    State {
-        length: edit.length,
-        sum: xor_blocks(state.sum, change),
-        ..state
+impl State {
+    // Works an edit: the blocks after the first at / 32 change, up to number `old_end` of the blocks before and up to
+    // `new_end` of those after, and blocks beyond the new text are dropped. Both ends hang on the call, not on the edit.
+    pub(crate) fn edited<K: Permutation, H: WriteBlocks>(
+        self,
+        h: &mut H,
+        edit: Edit<'_>,
+        old_end: usize,
+        new_end: usize,
+    ) -> State
+        requires { Workable self (H.ReadBlocks.list h.old) (H.ReadBlocks.room h.old) edit.at edit.bytes.now edit.length old_end new_end }
+        ensures value { result ≡ edited (under K.Permutation.forth K.Permutation.back self) (laid_edit (under K.Permutation.forth K.Permutation.back self) self (H.ReadBlocks.list h.old) edit.entry.at edit.entry.bytes.now edit.entry.length new_end) self (H.ReadBlocks.list h.old) }
+        ensures after { H.ReadBlocks.list h.new ≡ altered (under K.Permutation.forth K.Permutation.back self) (laid_edit (under K.Permutation.forth K.Permutation.back self) self (H.ReadBlocks.list h.old) edit.entry.at edit.entry.bytes.now edit.entry.length new_end) (H.ReadBlocks.list h.old) }
+        ensures same_room { H.ReadBlocks.room h.new ≡ H.ReadBlocks.room h.old }
+    {
+        let from = edit.at / 32;
+        let start = self.mask::<K>().at(2 * from, 0);
+        let given = part_adds::<K, H>(start, h, from, old_end);
+        reseal::<K, H>(start, h, from, new_end, edit);
+        drop_to(h, block_count(edit.length));
+        let taken = part_adds::<K, H>(start, h, from, new_end);
+        let change = xor_blocks(given, taken);
+        State {
+            length: edit.length,
+            sum: xor_blocks(self.sum, change),
+            ..self
+        }
     }
 }

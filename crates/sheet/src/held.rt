@@ -9,9 +9,7 @@ pub(crate) fn held_block<R: ReadBlocks>(h: &R, k: usize) -> [u8; 32]
     requires { (0 < k) × (k ≤ length (R.ReadBlocks.list h.now)) }
     ensures { result ≡ block_of (R.ReadBlocks.list h.now) k }
 {
-    let mut bytes = [0u8; 32];
-    let _ = h.get(k, &mut bytes);
-    bytes
+    h.block(k).unwrap_or([0; 32])
 }
 
 // One block more.

@@ -1,6 +1,6 @@
 // Block holders: what keeps a sheet's blocks.
 ghost use Rattle.std.specs.Prelude.{◌≡◌, ℕ, false, List, length, is_ok, if◌then◌else◌};
-ghost use Rattle.sheet.specs.Holders.{block as block_of, Bounded, Sound, place_answer, add_answer, drop_answer, with_block, with_more, without_last};
+ghost use Rattle.sheet.specs.Holders.{block as block_of, Bounded, Sound, block_answer, place_answer, add_answer, drop_answer, with_block, with_more, without_last};
 
 use modes::refusal::Refusal;
 
@@ -23,9 +23,19 @@ pub trait ReadBlocks {
     fn get(&self, k: usize, out: &mut [u8]) -> Result<(), Refusal>
         ensures value { result ≡ place_answer (list self.now) k out.old }
         ensures copied { out.new ≡ (if is_ok result then block_of (list self.now) k else out.old) };
+
+    // Block k, by value.
+    fn block(&self, k: usize) -> Result<[u8; 32], Refusal>
+        ensures { result ≡ block_answer (list self.now) k }
+    {
+        let mut bytes = [0u8; 32];
+        self.get(k, &mut bytes)?;
+        Ok(bytes)
+    }
 }
 
 // A holder that is also written. A declined call leaves the whole holder as it was.
+// That and the room are clauses of each call, since callers and implementations take clauses by name.
 pub trait WriteBlocks: ReadBlocks {
     // Replaces block k.
     fn put(&mut self, k: usize, block: &[u8]) -> Result<(), Refusal>

@@ -5,6 +5,7 @@ pub mod calls;
 mod carried;
 mod changing;
 mod checking;
+pub mod context;
 mod editing;
 mod held;
 pub mod holder;

@@ -5,10 +5,11 @@ ghost use Rattle.sheet.specs.Chunks.{held, room_of, overwritten};
 ghost use Rattle.sheet.specs.Lent.{lent_bytes, lent_list, lent_room};
 ghost use Rattle.sheet.specs.Holders.{block as block_of, place_answer, add_answer, drop_answer, with_block, with_more, without_last};
 
+use crate::checking::{check_left, check_place, check_room};
 use crate::holder::{ReadBlocks, WriteBlocks};
-use modes::refusal::{Layer, Reason, Refusal};
+use modes::refusal::Refusal;
 
-// Its limit is what the bytes have room for, and at most 4,096.
+// Its limit is what the bytes have room for, and at most 4,096. The bytes are lent, so the count stands beside them.
 #[derive(Drop)]
 pub struct MemoryHolder<'a> {
     bytes: &'a mut [u8],
@@ -34,12 +35,7 @@ pub(crate) fn copy_block(
     ensures value { result ≡ place_answer (held count bytes.now) k out.old }
     ensures copied { out.new ≡ (if is_ok result then block_of (held count bytes.now) k else out.old) }
 {
-    if out.len() != 32 {
-        return Err(Refusal::new(Layer::Holder, Reason::BufferLength, 0));
-    }
-    if k == 0 || k > count.min(capacity(bytes)) {
-        return Err(Refusal::new(Layer::Holder, Reason::NoSuchBlock, k));
-    }
+    check_place(count.min(capacity(bytes)), k, out)?;
     let at = 32 * (k - 1);
     out.copy_from_slice(&bytes[at..at + 32]);
     Ok(())
@@ -95,12 +91,7 @@ impl<'a> WriteBlocks for MemoryHolder<'a> {
         ensures bytes { lent_bytes self.new ≡ (if is_ok result then overwritten (lent_bytes self.old) (k - 1) block.now else lent_bytes self.old) }
         ensures tied { self.new.bytes.ghost_name ≡ self.old.bytes.ghost_name }
     {
-        if block.len() != 32 {
-            return Err(Refusal::new(Layer::Holder, Reason::BufferLength, 0));
-        }
-        if k == 0 || k > self.count() {
-            return Err(Refusal::new(Layer::Holder, Reason::NoSuchBlock, k));
-        }
+        check_place(self.count(), k, block)?;
         overwrite(self.bytes, k - 1, block);
         Ok(())
     }
@@ -113,13 +104,8 @@ impl<'a> WriteBlocks for MemoryHolder<'a> {
         ensures bytes { lent_bytes self.new ≡ (if is_ok result then overwritten (lent_bytes self.old) (length (lent_list self.old)) block.now else lent_bytes self.old) }
         ensures tied { self.new.bytes.ghost_name ≡ self.old.bytes.ghost_name }
     {
-        if block.len() != 32 {
-            return Err(Refusal::new(Layer::Holder, Reason::BufferLength, 0));
-        }
+        check_room(self, block)?;
         let count = self.count();
-        if count >= self.limit() {
-            return Err(Refusal::new(Layer::Holder, Reason::Limit, 0));
-        }
         overwrite(self.bytes, count, block);
         self.count = count + 1;
         Ok(())
@@ -133,10 +119,8 @@ impl<'a> WriteBlocks for MemoryHolder<'a> {
         ensures bytes { lent_bytes self.new ≡ lent_bytes self.old }
         ensures tied { self.new.bytes.ghost_name ≡ self.old.bytes.ghost_name }
     {
+        check_left(self)?;
         let count = self.count();
-        if count == 0 {
-            return Err(Refusal::new(Layer::Holder, Reason::NoSuchBlock, 0));
-        }
         self.count = count - 1;
         Ok(())
     }

@@ -4,8 +4,9 @@ ghost use Rattle.sheet.specs.Holders.{block as block_of, place_answer, add_answe
 ghost use Rattle.sheet.specs.NoteLaws.{beyond_bounded};
 ghost use Rattle.sheet.specs.Notes.{note_in, beyond, room_beyond, noted, note_answer};
 
+use crate::checking::{check_left, check_place, check_room};
 use crate::holder::{ReadBlocks, WriteBlocks};
-use modes::refusal::{Layer, Reason, Refusal};
+use modes::refusal::Refusal;
 
 // Its blocks are those below but the first, which is the note.
 #[derive(Drop)]
@@ -68,12 +69,7 @@ impl<W: WriteBlocks> ReadBlocks for NoteHolder<W> {
 
     // Declines by itself, so that the place is the caller's number and 0 never reaches the note.
     fn get(&self, k: usize, out: &mut [u8]) -> Result<(), Refusal> {
-        if out.len() != 32 {
-            return Err(Refusal::new(Layer::Holder, Reason::BufferLength, 0));
-        }
-        if k == 0 || k > self.count() {
-            return Err(Refusal::new(Layer::Holder, Reason::NoSuchBlock, k));
-        }
+        check_place(self.count(), k, out)?;
         self.below.get(k + 1, out)
     }
 }
@@ -87,12 +83,7 @@ impl<W: WriteBlocks> WriteBlocks for NoteHolder<W> {
         ensures note { note_in (W.ReadBlocks.list self.new.below) ≡ note_in (W.ReadBlocks.list self.old.below) }
         ensures room_below { W.ReadBlocks.room self.new.below ≡ W.ReadBlocks.room self.old.below }
     {
-        if block.len() != 32 {
-            return Err(Refusal::new(Layer::Holder, Reason::BufferLength, 0));
-        }
-        if k == 0 || k > self.count() {
-            return Err(Refusal::new(Layer::Holder, Reason::NoSuchBlock, k));
-        }
+        check_place(self.count(), k, block)?;
         self.below.put(k + 1, block)
     }
 
@@ -105,12 +96,7 @@ impl<W: WriteBlocks> WriteBlocks for NoteHolder<W> {
         ensures note { note_in (W.ReadBlocks.list self.new.below) ≡ (if is_ok result then noted (W.ReadBlocks.list self.old.below) else note_in (W.ReadBlocks.list self.old.below)) }
         ensures room_below { W.ReadBlocks.room self.new.below ≡ W.ReadBlocks.room self.old.below }
     {
-        if block.len() != 32 {
-            return Err(Refusal::new(Layer::Holder, Reason::BufferLength, 0));
-        }
-        if self.count() >= self.limit() {
-            return Err(Refusal::new(Layer::Holder, Reason::Limit, 0));
-        }
+        check_room(self, block)?;
         if self.below.count() == 0 {
             self.below.add(&[0; 32])?;
         }
@@ -126,9 +112,7 @@ impl<W: WriteBlocks> WriteBlocks for NoteHolder<W> {
         ensures note { note_in (W.ReadBlocks.list self.new.below) ≡ note_in (W.ReadBlocks.list self.old.below) }
         ensures room_below { W.ReadBlocks.room self.new.below ≡ W.ReadBlocks.room self.old.below }
     {
-        if self.count() == 0 {
-            return Err(Refusal::new(Layer::Holder, Reason::NoSuchBlock, 0));
-        }
+        check_left(self)?;
         self.below.drop_last()
     }
 }

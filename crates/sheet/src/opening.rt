@@ -1,19 +1,22 @@
 // Opening: the sum over a holder's blocks in one pass, two steps of the mask a block, and the padding of the last.
-ghost use Rattle.std.specs.Prelude.{◌≡◌, ◌-◌, ◌*◌, ◌<◌, ◌≤◌, length};
+ghost use Rattle.std.specs.Prelude.{◌≡◌, ◌-◌, ◌*◌, ◌<◌, ◌≤◌, length, OnOk};
 ghost use Rattle.modes.specs.Masks.{times, step};
 ghost use Rattle.modes.specs.Sums.{xor_to};
 ghost use Rattle.sheet.specs.Calls.{last_plain, open_answer};
 ghost use Rattle.sheet.specs.Ciphers.{cipher_of};
+ghost use Rattle.sheet.specs.Holders.{Sound};
 ghost use Rattle.sheet.specs.Holding.{block_adds};
 ghost use Rattle.sheet.specs.Sealing.{sum_of, tag_of as tag_over, text_end};
+ghost use Rattle.sheet.specs.Standing.{Keyable};
 
+use crate::context::{Context, keys_from};
 use crate::held::held_block;
 use crate::holder::ReadBlocks;
 use crate::state::State;
 use modes::cipher::Usage;
 use modes::keys::{Key, Nonce, tag_from};
 use modes::mask::{Mask, xor_blocks};
-use modes::plate::{same_tag, tag_of};
+use modes::plate::{same_bytes, tag_of};
 use modes::refusal::{Layer, Reason, Refusal};
 use modes::sums::{check_length, sum_of};
 use permutation::Permutation;
@@ -22,15 +25,8 @@ use permutation::Permutation;
 fn end_of_text(block: [u8; 32]) -> Option<usize>
     ensures { result ≡ text_end block }
 {
-    for j in (0..32).rev() {
-        if block[j] == 0x80 {
-            return Some(j);
-        }
-        if block[j] != 0x00 {
-            return None;
-        }
-    }
-    None
+    let end = block.iter().rposition(|byte| *byte != 0x00)?;
+    (block[end] == 0x80).then_some(end)
 }
 
 // The mask that the blocks before the last come to, and what they add to the sum.
@@ -87,41 +83,42 @@ fn summed<K: Permutation, R: ReadBlocks>(
     }
 }
 
-// Opens what a holder has under a key, a nonce, a label and a tag.
-pub(crate) fn open_state<K: Permutation, R: ReadBlocks>(
-    key: &[u8],
-    nonce: &[u8],
-    label: &[u8],
-    tag: &[u8],
-    h: &R,
-) -> Result<State, Refusal>
-    ensures { result ≡ open_answer (cipher_of K.Permutation.forth K.Permutation.back key.now nonce.now) key.now nonce.now label.now tag.now (R.ReadBlocks.list h.now) }
-{
-    let key = Key::new(key)?;
-    let nonce = Nonce::new(nonce)?;
-    let tag = tag_from(tag)?;
-    check_length(label)?;
-    let m = h.count();
-    if m == 0 || m > 4096 {
-        return Err(Refusal::new(Layer::Sheet, Reason::BlockCount, 0));
+impl State {
+    // Opens what a holder has under a context and a tag.
+    pub(crate) fn open<K: Permutation, R: ReadBlocks>(
+        context: Context<'_>,
+        tag: &[u8],
+        h: &R,
+    ) -> Result<State, Refusal>
+        ensures keyed { Keyable context.entry.key.now context.entry.nonce.now }
+        ensures bytes { OnOk result (Sound (R.ReadBlocks.list h.now)) }
+        ensures value { result ≡ open_answer (cipher_of K.Permutation.forth K.Permutation.back context.entry.key.now context.entry.nonce.now) context.entry.key.now context.entry.nonce.now context.entry.label.now tag.now (R.ReadBlocks.list h.now) }
+    {
+        let (key, nonce) = keys_from(context.key, context.nonce)?;
+        let tag = tag_from(tag)?;
+        check_length(context.label)?;
+        let m = h.count();
+        if m == 0 || m > 4096 {
+            return Err(Refusal::new(Layer::Sheet, Reason::BlockCount, 0));
+        }
+        let Found {
+            label,
+            sum,
+            tag: right,
+            plain,
+        } = summed::<K, R>(key, nonce, context.label, h, m);
+        if !same_bytes(tag, right) {
+            return Err(Refusal::new(Layer::Sheet, Reason::TagMismatch, 0));
+        }
+        let Some(end) = end_of_text(plain) else {
+            return Err(Refusal::new(Layer::Sheet, Reason::Padding, 0));
+        };
+        Ok(State {
+            key,
+            nonce,
+            length: 32 * (m - 1) + end,
+            label,
+            sum,
+        })
     }
-    let Found {
-        label,
-        sum,
-        tag: right,
-        plain,
-    } = summed::<K, R>(key, nonce, label, h, m);
-    if !same_tag(tag, right) {
-        return Err(Refusal::new(Layer::Sheet, Reason::TagMismatch, 0));
-    }
-    let Some(end) = end_of_text(plain) else {
-        return Err(Refusal::new(Layer::Sheet, Reason::Padding, 0));
-    };
-    Ok(State {
-        key,
-        nonce,
-        length: 32 * (m - 1) + end,
-        label,
-        sum,
-    })
 }

@@ -8,20 +8,10 @@ ghost use Rattle.sheet.specs.Holding.{opened_byte};
 use crate::held::held_block;
 use crate::holder::ReadBlocks;
 use crate::state::State;
-use modes::cipher::Usage;
 use modes::mask::Mask;
 use modes::plate::tag_of;
-use modes::refusal::{Layer, Reason, Refusal};
+use modes::refusal::Refusal;
 use permutation::Permutation;
-
-// The tag of a sheet's state.
-pub(crate) fn tag_of_state<K: Permutation>(state: State) -> [u8; 16]
-    ensures { result ≡ tag_answer (under K.Permutation.forth K.Permutation.back state) state }
-{
-    let base = Mask::base::<K>(state.key, Usage::Text, state.nonce);
-    let m = state.length / 32 + 1;
-    tag_of(base.at(2 * m - 1, 1).encipher::<K>(state.sum))
-}
 
 // Of a buffer for the bytes from `at` on, the part that the block of the bytes from `from` on fills.
 fn fill_from(out: &mut [u8], at: usize, from: usize, plain: [u8; 32])
@@ -54,34 +44,35 @@ fn copy_out<K: Permutation, R: ReadBlocks>(base: Mask, h: &R, at: usize, out: &m
 {
     let count = h.count();
     let mut mask = base;
-    for k in 0..((at + out.len() + 31) / 32).min(count) {
+    for k in 0..(at + out.len()).div_ceil(32).min(count) {
         let odd = mask.stepped();
         visit::<K, R>(odd, h, k, at, out);
         mask = odd.stepped();
     }
 }
 
-// Copies bytes out from a position, as many as the buffer holds.
-pub(crate) fn read_state<K: Permutation, R: ReadBlocks>(
-    state: State,
-    h: &R,
-    at: usize,
-    out: &mut [u8],
-) -> Result<(), Refusal>
-    ensures value { result ≡ read_answer state (R.ReadBlocks.list h.now) at (length out.old) }
-    ensures copied { out.new ≡ (if is_ok result then read_bytes (under K.Permutation.forth K.Permutation.back state) state (R.ReadBlocks.list h.now) at (length out.old) else out.old) }
-{
-    if h.count() != state.length / 32 + 1 {
-        return Err(Refusal::new(Layer::Sheet, Reason::BlockCount, 0));
+impl State {
+    // Copies bytes out from a position, as many as the buffer holds.
+    pub(crate) fn read<K: Permutation, R: ReadBlocks>(
+        self,
+        h: &R,
+        at: usize,
+        out: &mut [u8],
+    ) -> Result<(), Refusal>
+        ensures value { result ≡ read_answer self (R.ReadBlocks.list h.now) at (length out.old) }
+        ensures copied { out.new ≡ (if is_ok result then read_bytes (under K.Permutation.forth K.Permutation.back self) self (R.ReadBlocks.list h.now) at (length out.old) else out.old) }
+    {
+        self.check_range::<R>(h, at, out.len())?;
+        let base = self.mask::<K>();
+        copy_out::<K, R>(base, h, at, out);
+        Ok(())
     }
-    if at > state.length || out.len() > state.length - at {
-        return Err(Refusal::new(Layer::Sheet, Reason::Range, 0));
+
+    pub(crate) fn tag<K: Permutation>(self) -> [u8; 16]
+        ensures { result ≡ tag_answer (under K.Permutation.forth K.Permutation.back self) self }
+    {
+        let base = self.mask::<K>();
+        let m = self.blocks();
+        tag_of(base.at(2 * m - 1, 1).encipher::<K>(self.sum))
     }
-    copy_out::<K, R>(
-        Mask::base::<K>(state.key, Usage::Text, state.nonce),
-        h,
-        at,
-        out,
-    );
-    Ok(())
 }

@@ -7,7 +7,7 @@ use crate::holder::ReadBlocks;
 use crate::memory::{capacity, copy_block};
 use modes::refusal::Refusal;
 
-// Holds the whole blocks of the bytes, and at most 4,096.
+// Holds the whole blocks of the bytes, and at most 4,096. A type beside the memory holder, since shared bytes cannot be written.
 #[derive(Drop)]
 pub struct ReceivedHolder<'a> {
     bytes: &'a [u8],

@@ -8,10 +8,12 @@ ghost use Rattle.modes.specs.Sums.{xor_to};
 ghost use Rattle.sheet.specs.Calls.{seal_claims, seal_answer};
 ghost use Rattle.sheet.specs.Ciphers.{sealed_block, sealed_adds, cipher_of};
 ghost use Rattle.sheet.specs.Sealing.{blocks_in, sealed, total};
+ghost use Rattle.sheet.specs.Standing.{Keyable};
 
+use crate::context::{Context, keys_from};
 use crate::held::add_block;
 use crate::holder::WriteBlocks;
-use crate::state::State;
+use crate::state::{State, block_count};
 use modes::cipher::Usage;
 use modes::keys::{Key, Nonce};
 use modes::mask::{Mask, xor_blocks};
@@ -36,9 +38,9 @@ fn seal_inner<K: Permutation, H: WriteBlocks>(
 {
     let mut mask = base;
     let mut sum = [0u8; 32];
-    for k in 0..text.len() / 32 {
+    for plain in text.as_chunks::<32>().0 {
         let odd = mask.stepped();
-        let block = odd.encipher::<K>(first_block(&text[32 * k..]));
+        let block = odd.encipher::<K>(*plain);
         add_block(h, block);
         let even = odd.stepped();
         let added = xor_blocks(sum, even.encipher::<K>(block));
@@ -62,58 +64,58 @@ fn seal_blocks<K: Permutation, H: WriteBlocks>(
 {
     let base = Mask::base::<K>(key, Usage::Text, nonce);
     let (mask, sum) = seal_inner::<K, H>(base, text, h);
-    let last = first_block(&text[text.len() / 32 * 32..]);
+    let (_, rest) = text.as_chunks::<32>();
+    let last = first_block(rest);
     let block = mask.stepped().encipher::<K>(last);
     add_block(h, block);
     xor_blocks(sum, block)
 }
 
 // The sentences that seal is declined by; key and nonce where none is true.
-fn seal_checks<H: WriteBlocks>(
-    key: &[u8],
-    nonce: &[u8],
-    label: &[u8],
+fn check_seal<H: WriteBlocks>(
+    context: Context<'_>,
     text: &[u8],
     h: &H,
 ) -> Result<(Key, Nonce), Refusal>
-    ensures { result ≡ answer (seal_claims key.now nonce.now label.now text.now (H.ReadBlocks.room h.now) (H.ReadBlocks.list h.now)) (key_of key.now, nonce_of nonce.now) }
+    ensures keyed { Keyable context.entry.key.now context.entry.nonce.now }
+    ensures value { result ≡ answer (seal_claims context.entry.key.now context.entry.nonce.now context.entry.label.now text.now (H.ReadBlocks.room h.now) (H.ReadBlocks.list h.now)) (key_of context.entry.key.now, nonce_of context.entry.nonce.now) }
 {
-    let key = Key::new(key)?;
-    let nonce = Nonce::new(nonce)?;
-    check_length(label)?;
+    let (key, nonce) = keys_from(context.key, context.nonce)?;
+    check_length(context.label)?;
     if text.len() > MAX_TEXT {
         return Err(Refusal::new(Layer::Sheet, Reason::TextLength, 0));
     }
     if h.count() != 0 {
         return Err(Refusal::new(Layer::Sheet, Reason::BlockCount, 0));
     }
-    if h.limit() < text.len() / 32 + 1 {
+    if h.limit() < block_count(text.len()) {
         return Err(Refusal::new(Layer::Sheet, Reason::Limit, 0));
     }
     Ok((key, nonce))
 }
 
-// Seals a text: the holder comes to hold its sealed blocks.
-pub(crate) fn seal_state<K: Permutation, H: WriteBlocks>(
-    key: &[u8],
-    nonce: &[u8],
-    label: &[u8],
-    text: &[u8],
-    h: &mut H,
-) -> Result<State, Refusal>
-    ensures value { result ≡ seal_answer (cipher_of K.Permutation.forth K.Permutation.back key.now nonce.now) key.now nonce.now label.now text.now (H.ReadBlocks.room h.old) (H.ReadBlocks.list h.old) }
-    ensures after { H.ReadBlocks.list h.new ≡ (if is_ok result then sealed (cipher_of K.Permutation.forth K.Permutation.back key.now nonce.now) text.now else H.ReadBlocks.list h.old) }
-    ensures same_room { H.ReadBlocks.room h.new ≡ H.ReadBlocks.room h.old }
-    ensures untouched { is_ok result ≡ false → h.new ≡ h.old }
-{
-    let (key, nonce) = seal_checks::<H>(key, nonce, label, text, h)?;
-    let label = sum_of::<K>(key, label);
-    let blocks = seal_blocks::<K, H>(key, nonce, text, h);
-    Ok(State {
-        key,
-        nonce,
-        length: text.len(),
-        label,
-        sum: xor_blocks(label, blocks),
-    })
+impl State {
+    // Seals a text: the holder comes to hold its sealed blocks.
+    pub(crate) fn seal<K: Permutation, H: WriteBlocks>(
+        context: Context<'_>,
+        text: &[u8],
+        h: &mut H,
+    ) -> Result<State, Refusal>
+        ensures keyed { Keyable context.entry.key.now context.entry.nonce.now }
+        ensures value { result ≡ seal_answer (cipher_of K.Permutation.forth K.Permutation.back context.entry.key.now context.entry.nonce.now) context.entry.key.now context.entry.nonce.now context.entry.label.now text.now (H.ReadBlocks.room h.old) (H.ReadBlocks.list h.old) }
+        ensures after { H.ReadBlocks.list h.new ≡ (if is_ok result then sealed (cipher_of K.Permutation.forth K.Permutation.back context.entry.key.now context.entry.nonce.now) text.now else H.ReadBlocks.list h.old) }
+        ensures same_room { H.ReadBlocks.room h.new ≡ H.ReadBlocks.room h.old }
+        ensures untouched { is_ok result ≡ false → h.new ≡ h.old }
+    {
+        let (key, nonce) = check_seal::<H>(context, text, h)?;
+        let label = sum_of::<K>(key, context.label);
+        let blocks = seal_blocks::<K, H>(key, nonce, text, h);
+        Ok(State {
+            key,
+            nonce,
+            length: text.len(),
+            label,
+            sum: xor_blocks(label, blocks),
+        })
+    }
 }

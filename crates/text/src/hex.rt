@@ -14,6 +14,7 @@ pub enum HexError {
     Memory,
 }
 
+// Two impls, and by hand: the library has two types for it, and clauses name the error that a `?` makes.
 impl From<AllocError> for HexError {
     ghost from_gives = { λ _ r. r ≡ Memory };
 
@@ -30,7 +31,7 @@ impl<T: Drop> From<AllocFailed<T>> for HexError {
     }
 }
 
-// The value of a digit, of either case.
+// The value of a digit, of either case. Stays written out: `to_digit` takes a char and gives a u32, which would be cast twice.
 pub fn hex_digit(b: u8) -> Option<u8>
     ensures { result ≡ digit_of b }
 {
@@ -48,11 +49,7 @@ fn hex_char(value: u8) -> char
     ensures is { result ≡ char_of value }
     ensures ascii { result < 128 }
 {
-    if value < 10 {
-        char::from(b'0' + value)
-    } else {
-        char::from(b'a' + (value - 10))
-    }
+    char::from_digit(u32::from(value), 16).unwrap()
 }
 
 // The two digits of a byte.
@@ -76,28 +73,26 @@ pub fn to_hex(heap: Global, bytes: &[u8]) -> Result<String, AllocError>
     Ok(text)
 }
 
-fn digit_at(text: &[u8], place: usize) -> Result<u8, HexError>
-    requires { place < length text.now }
-    ensures cases { MatchResult result (λ d. digit_of (slice_index text.now place) ≡ Some d) (λ e. e ≡ NotDigit place) }
-    ensures refused { MatchResult result (λ d. d < 16) (λ _. digit_of (slice_index text.now place) ≡ None) }
+// The value of a digit, which stands at `place` of a text.
+fn digit_at(place: usize, b: u8) -> Result<u8, HexError>
+    ensures cases { MatchResult result (λ d. digit_of b ≡ Some d) (λ e. e ≡ NotDigit place) }
+    ensures refused { MatchResult result (λ d. d < 16) (λ _. digit_of b ≡ None) }
 {
-    match hex_digit(text[place]) {
-        Some(digit) => Ok(digit),
-        None => Err(HexError::NotDigit(place)),
-    }
+    hex_digit(b).ok_or(HexError::NotDigit(place))
 }
 
 // The bytes that a text spells.
 pub fn parse_hex(heap: Global, text: &[u8]) -> Result<Vec<u8>, HexError>
     ensures { MatchResult result (λ v. Spells text.now v.items) (λ e. Unspelt text.now e) }
 {
-    if text.len() % 2 != 0 {
+    let (pairs, rest) = text.as_chunks::<2>();
+    if !rest.is_empty() {
         return Err(HexError::OddLength);
     }
     let mut bytes = Vec::new(heap);
-    for k in 0..text.len() / 2 {
-        let high = digit_at(text, 2 * k)?;
-        let low = digit_at(text, 2 * k + 1)?;
+    for (k, [high, low]) in pairs.iter().enumerate() {
+        let high = digit_at(2 * k, *high)?;
+        let low = digit_at(2 * k + 1, *low)?;
         bytes.push(16 * high + low)?;
     }
     Ok(bytes)

@@ -1,4 +1,4 @@
-// Refusals in words.
+// Refusals in words. Functions and a type of its own, and no `Display` of theirs: the crate of refusals knows no text.
 ghost use Rattle.std.specs.Prelude.{◌≡◌, Some};
 ghost use Rattle.text.specs.Words.{layer_text, reason_text, refusal_text};
 

@@ -7,6 +7,8 @@ ghost use Rattle.vectors.specs.Lines.{Writes, ruled_byte as byte_by_rule, Ruled,
 use modes::cipher::Usage;
 use modes::refusal::Refusal;
 use std::alloc::{AllocError, AllocFailed, Global};
+use std::array::TryFromSliceError;
+use std::num::ParseIntError;
 use text::hex::{HexError, parse_hex};
 
 // Why a case has no value.
@@ -34,6 +36,18 @@ impl From<HexError> for Fault {
     }
 }
 
+impl From<ParseIntError> for Fault {
+    fn from(_e: ParseIntError) -> Fault {
+        Fault::Malformed
+    }
+}
+
+impl From<TryFromSliceError> for Fault {
+    fn from(_e: TryFromSliceError) -> Fault {
+        Fault::Malformed
+    }
+}
+
 impl From<AllocError> for Fault {
     ghost from_gives = { λ _ r. r ≡ Memory };
 
@@ -57,10 +71,19 @@ pub(crate) fn bytes_of(heap: Global, word: &str) -> Result<Vec<u8>, Fault>
     if word == "-" {
         return Ok(Vec::new(heap));
     }
-    if word.is_empty() || has_upper(word) {
+    if word.is_empty() || word.bytes().any(|b| b.is_ascii_uppercase()) {
         return Err(Fault::Malformed);
     }
     Ok(parse_hex(heap, word.as_bytes())?)
+}
+
+// A byte string of just N bytes.
+pub(crate) fn array_of<const N: usize>(heap: Global, word: &str) -> Result<[u8; N], Fault>
+    ensures value { IfOk result (λ b. Writes word.now b) }
+    ensures spelt { IfOk result (λ b. 0 < N → Spells word.now b) }
+{
+    let bytes = bytes_of(heap, word)?;
+    Ok(<[u8; N]>::try_from(bytes.as_slice())?)
 }
 
 // The longest that a rule makes.
@@ -71,15 +94,8 @@ pub(crate) fn long_bytes_of(heap: Global, word: &str) -> Result<Vec<u8>, Fault> 
     let Some(rule) = word.strip_prefix("~") else {
         return bytes_of(heap, word);
     };
-    let Some((n, start)) = rule.split_once(":") else {
-        return Err(Fault::Malformed);
-    };
-    let n = number_of(n)?;
-    let start = number_of(start)?;
-    if n > MAX_RULED || start > 255 {
-        return Err(Fault::Malformed);
-    }
-    ruled_bytes(heap, n, start)
+    let (n, start) = rule.split_once(":").ok_or(Fault::Malformed)?;
+    ruled_bytes(heap, number_up_to(n, MAX_RULED)?, number_up_to(start, 255)?)
 }
 
 fn ruled_byte(start: usize, i: usize) -> u8
@@ -93,39 +109,7 @@ fn ruled_bytes(heap: Global, n: usize, start: usize) -> Result<Vec<u8>, Fault>
     requires { (n ≤ 1000000) × (start < 256) }
     ensures { IfOk result (λ v. Ruled n start v.items) }
 {
-    let mut bytes = Vec::new(heap);
-    for i in 0..n {
-        bytes.push(ruled_byte(start, i))?;
-    }
-    Ok(bytes)
-}
-
-fn has_upper(word: &str) -> bool {
-    for b in word.as_bytes() {
-        if b.is_ascii_uppercase() {
-            return true;
-        }
-    }
-    false
-}
-
-pub(crate) fn byte_of(heap: Global, word: &str) -> Result<u8, Fault> {
-    match bytes_of(heap, word)?.as_slice() {
-        [byte] => Ok(*byte),
-        _ => Err(Fault::Malformed),
-    }
-}
-
-pub(crate) fn block_of(heap: Global, word: &str) -> Result<[u8; 32], Fault>
-    ensures { IfOk result (λ b. Spells word.now b) }
-{
-    let bytes = bytes_of(heap, word)?;
-    if bytes.len() != 32 {
-        return Err(Fault::Malformed);
-    }
-    let mut block = [0u8; 32];
-    block.copy_from_slice(bytes.as_slice());
-    Ok(block)
+    Ok((0..n).map(|i| ruled_byte(start, i)).collect(heap)?)
 }
 
 pub(crate) fn number_of(word: &str) -> Result<usize, Fault> {
@@ -133,12 +117,20 @@ pub(crate) fn number_of(word: &str) -> Result<usize, Fault> {
     if word.starts_with("+") {
         return Err(Fault::Malformed);
     }
-    match word.parse::<usize>() {
-        Ok(number) => Ok(number),
-        Err(_) => Err(Fault::Malformed),
-    }
+    Ok(word.parse::<usize>()?)
 }
 
+pub(crate) fn number_up_to(word: &str, most: usize) -> Result<usize, Fault>
+    ensures { IfOk result (λ n. n ≤ most) }
+{
+    let number = number_of(word)?;
+    if number > most {
+        return Err(Fault::Malformed);
+    }
+    Ok(number)
+}
+
+// Stays a function: only the cipher's own crate could give its `Usage` a `FromStr`, and that crate reads no names.
 pub(crate) fn usage_of(word: &str) -> Result<Usage, Fault>
     ensures { MatchResult result (λ u. word.now ≡ usage_name u) (λ e. e ≡ Malformed) }
 {

@@ -1,9 +1,8 @@
 // The cases that work holders by themselves.
 ghost use Rattle.std.specs.Prelude.{◌≡◌, IfOk, string_bytes, decimal};
 
-use crate::case::{Fault, byte_of, number_of};
+use crate::case::{Fault, array_of, number_of, number_up_to};
 use crate::sheets::block_word;
-use modes::refusal::Refusal;
 use sheet::holder::{ReadBlocks, WriteBlocks};
 use sheet::memory::MemoryHolder;
 use sheet::note::NoteHolder;
@@ -14,11 +13,7 @@ use text::words::Shown;
 const MAX_ROOM: usize = 1000000;
 
 fn room_of(heap: Global, size: &str) -> Result<Vec<u8>, Fault> {
-    let size = number_of(size)?;
-    if size > MAX_ROOM {
-        return Err(Fault::Malformed);
-    }
-    Ok(vec![in heap; 0u8; size]?)
+    Ok(vec![in heap; 0u8; number_up_to(size, MAX_ROOM)?]?)
 }
 
 pub(crate) fn hold_case(
@@ -41,40 +36,36 @@ pub(crate) fn note_case(
 ) -> Result<String, Fault> {
     let mut room = room_of(heap, size)?;
     let memory = MemoryHolder::new(room.as_mut_slice(), number_of(count)?);
+    let once = NoteHolder::new(memory);
     match depth {
-        "1" => note_once(heap, memory, operations),
-        "2" => note_twice(heap, memory, operations),
+        "1" => noted(heap, once, NoteHolder::into_below, operations),
+        "2" => noted(
+            heap,
+            NoteHolder::new(once),
+            |h| h.into_below().into_below(),
+            operations,
+        ),
         _ => Err(Fault::Malformed),
     }
 }
 
-fn note_once<W: WriteBlocks + Drop>(
+// What a holder's operations come to, and the lowest holder after them: its count, and its first block.
+fn noted<W: WriteBlocks + Drop, R: ReadBlocks + Drop, F: FnOnce(W) -> R + Drop>(
     heap: Global,
-    below: W,
+    mut holder: W,
+    lowest: F,
     operations: &[&str],
-) -> Result<String, Fault> {
-    let mut holder = NoteHolder::new(below);
+) -> Result<String, Fault>
+    requires { F.IsAlwaysCallable lowest }
+{
     let shown = outcomes(heap, &mut holder, operations)?;
-    with_end(heap, shown, &holder.into_below())
-}
-
-fn note_twice<W: WriteBlocks + Drop>(
-    heap: Global,
-    below: W,
-    operations: &[&str],
-) -> Result<String, Fault> {
-    let mut holder = NoteHolder::new(NoteHolder::new(below));
-    let shown = outcomes(heap, &mut holder, operations)?;
-    with_end(heap, shown, &holder.into_below().into_below())
-}
-
-// What the lowest holder comes to: its count, and its first block.
-fn with_end<R: ReadBlocks>(heap: Global, shown: String, h: &R) -> Result<String, Fault> {
-    let count = h.count();
-    if count == 0 {
-        return Ok(format!(in heap; "{shown} | 0 -")?);
-    }
-    let first = block_word(heap, h, 1)?;
+    let lowest = lowest(holder);
+    let count = lowest.count();
+    let first = if count == 0 {
+        String::from_str(heap, "-")?
+    } else {
+        block_word(heap, &lowest, 1)?
+    };
     Ok(format!(in heap; "{shown} | {count} {first}")?)
 }
 
@@ -84,7 +75,6 @@ fn outcomes<W: WriteBlocks>(heap: Global, h: &mut W, operations: &[&str]) -> Res
         if !shown.is_empty() {
             shown.push(';')?;
         }
-        let operation = operation_of(heap, operation)?;
         shown.push_str(outcome_or_refusal(heap, h, operation)?.as_str())?;
     }
     Ok(shown)
@@ -93,7 +83,7 @@ fn outcomes<W: WriteBlocks>(heap: Global, h: &mut W, operations: &[&str]) -> Res
 fn outcome_or_refusal<W: WriteBlocks>(
     heap: Global,
     h: &mut W,
-    operation: Operation,
+    operation: &str,
 ) -> Result<String, Fault> {
     match outcome(heap, h, operation) {
         Err(Fault::Declined(refusal)) => {
@@ -104,70 +94,37 @@ fn outcome_or_refusal<W: WriteBlocks>(
     }
 }
 
-#[derive(Clone, Copy)]
-enum Operation {
-    Count,
-    Limit,
-    Get(usize),
-    Change(Change),
-}
-
-// An operation that gives nothing, if it is taken.
-#[derive(Clone, Copy)]
-enum Change {
-    // Block and byte.
-    Put(usize, u8),
-    Add(u8),
-    Drop,
-    // With buffers of other sizes than 32.
-    GetShort(usize),
-    PutShort(usize),
-    AddLong,
-}
-
-fn operation_of(heap: Global, word: &str) -> Result<Operation, Fault> {
-    let words: Vec<&str> = word.split(':').collect(heap)?;
+fn outcome<W: WriteBlocks>(heap: Global, h: &mut W, operation: &str) -> Result<String, Fault> {
+    let words: Vec<&str> = operation.split(':').collect(heap)?;
     match words.as_slice() {
-        ["count"] => Ok(Operation::Count),
-        ["limit"] => Ok(Operation::Limit),
-        ["get", k] => Ok(Operation::Get(number_of(k)?)),
-        rest => Ok(Operation::Change(change_of(heap, rest)?)),
-    }
-}
-
-fn change_of(heap: Global, words: &[&str]) -> Result<Change, Fault> {
-    match words {
-        ["put", k, byte] => Ok(Change::Put(number_of(k)?, byte_of(heap, byte)?)),
-        ["add", byte] => Ok(Change::Add(byte_of(heap, byte)?)),
-        ["drop"] => Ok(Change::Drop),
-        ["getshort", k] => Ok(Change::GetShort(number_of(k)?)),
-        ["putshort", k] => Ok(Change::PutShort(number_of(k)?)),
-        ["addlong"] => Ok(Change::AddLong),
-        _ => Err(Fault::Malformed),
-    }
-}
-
-fn outcome<W: WriteBlocks>(heap: Global, h: &mut W, operation: Operation) -> Result<String, Fault> {
-    match operation {
-        Operation::Count => number_word(heap, h.count()),
-        Operation::Limit => number_word(heap, h.limit()),
-        Operation::Get(k) => block_word(heap, h, k),
-        Operation::Change(change) => {
-            changed(h, change)?;
+        ["count"] => number_word(heap, h.count()),
+        ["limit"] => number_word(heap, h.limit()),
+        ["get", k] => block_word(heap, h, number_of(k)?),
+        change => {
+            changed(heap, h, change)?;
             Ok(String::from_str(heap, "ok")?)
         }
     }
 }
 
-fn changed<W: WriteBlocks>(h: &mut W, change: Change) -> Result<(), Refusal> {
-    match change {
-        Change::Put(k, byte) => h.put(k, &[byte; 32]),
-        Change::Add(byte) => h.add(&[byte; 32]),
-        Change::Drop => h.drop_last(),
-        Change::GetShort(k) => h.get(k, &mut [0; 31]),
-        Change::PutShort(k) => h.put(k, &[0; 31]),
-        Change::AddLong => h.add(&[0; 33]),
+// The operations that give nothing, if they are taken.
+fn changed<W: WriteBlocks>(heap: Global, h: &mut W, words: &[&str]) -> Result<(), Fault> {
+    match words {
+        ["put", k, byte] => h.put(number_of(k)?, &filled_block(heap, byte)?)?,
+        ["add", byte] => h.add(&filled_block(heap, byte)?)?,
+        ["drop"] => h.drop_last()?,
+        // With buffers of other sizes than 32.
+        ["getshort", k] => h.get(number_of(k)?, &mut [0; 31])?,
+        ["putshort", k] => h.put(number_of(k)?, &[0; 31])?,
+        ["addlong"] => h.add(&[0; 33])?,
+        _ => return Err(Fault::Malformed),
     }
+    Ok(())
+}
+
+fn filled_block(heap: Global, byte: &str) -> Result<[u8; 32], Fault> {
+    let [byte] = array_of::<1>(heap, byte)?;
+    Ok([byte; 32])
 }
 
 fn number_word(heap: Global, number: usize) -> Result<String, Fault>

@@ -1,13 +1,11 @@
 // The cases that seal, open and read sheets.
 ghost use Rattle.std.specs.Prelude.{◌≡◌, IfOk, string_bytes};
-ghost use Rattle.sheet.specs.Calls.{seal_answer, open_answer};
-ghost use Rattle.sheet.specs.Ciphers.{cipher_of};
-ghost use Rattle.sheet.specs.Sheets.{stated};
 ghost use Rattle.vectors.specs.Lines.{Writes, word_of as word_for};
 
-use crate::case::{Fault, bytes_of, long_bytes_of, number_of};
+use crate::case::{Fault, bytes_of, long_bytes_of, number_of, number_up_to};
 use modes::refusal::Refusal;
 use permutation::Permutation;
+use sheet::context::Context;
 use sheet::holder::{ReadBlocks, WriteBlocks};
 use sheet::memory::MemoryHolder;
 use sheet::received::ReceivedHolder;
@@ -17,6 +15,9 @@ use text::hex::to_hex;
 
 // Longer than any text, so that no read of so much is taken.
 const MAX_READ: usize = 200000;
+
+// The most blocks that a holder keeps.
+const MAX_BLOCKS: usize = 4096;
 
 // What a sheet is sealed and opened under.
 #[derive(Drop)]
@@ -36,32 +37,58 @@ impl Under {
         Ok(Under { key, nonce, label })
     }
 
-    fn seal<K: Permutation, H: WriteBlocks>(
-        &self,
-        text: &[u8],
-        h: &mut H,
-    ) -> Result<Sheet<K>, Refusal>
-        ensures { stated result ≡ seal_answer (cipher_of K.Permutation.forth K.Permutation.back self.now.key.items self.now.nonce.items) self.now.key.items self.now.nonce.items self.now.label.items text.now (H.ReadBlocks.room h.old) (H.ReadBlocks.list h.old) }
+    fn context(&self) -> Context<'_>
+        ensures key { result.key.now ≡ self.now.key.items }
+        ensures nonce { result.nonce.now ≡ self.now.nonce.items }
+        ensures label { result.label.now ≡ self.now.label.items }
     {
-        Sheet::<K>::seal(
-            self.key.as_slice(),
-            self.nonce.as_slice(),
-            self.label.as_slice(),
-            text,
-            h,
-        )
+        Context {
+            key: self.key.as_slice(),
+            nonce: self.nonce.as_slice(),
+            label: self.label.as_slice(),
+        }
     }
 
-    fn open<K: Permutation, R: ReadBlocks>(&self, tag: &[u8], h: &R) -> Result<Sheet<K>, Refusal>
-        ensures { stated result ≡ open_answer (cipher_of K.Permutation.forth K.Permutation.back self.now.key.items self.now.nonce.items) self.now.key.items self.now.nonce.items self.now.label.items tag.now (R.ReadBlocks.list h.now) }
+    // Seals a text into just as much room as its blocks take, and goes on with its sheet.
+    fn sealed<
+        K: Permutation,
+        F: FnOnce(Under, Sheet<K>, &mut MemoryHolder<'_>) -> Result<String, Fault> + Drop,
+    >(self, heap: Global, text: &[u8], then: F) -> Result<String, Fault>
+        requires { F.IsAlwaysCallable then }
     {
-        Sheet::<K>::open(
-            self.key.as_slice(),
-            self.nonce.as_slice(),
-            self.label.as_slice(),
-            tag,
-            h,
-        )
+        let count = (text.len() / 32).min(MAX_BLOCKS - 1) + 1;
+        let mut room = vec![in heap; 0u8; 32 * count]?;
+        let mut holder = MemoryHolder::new(room.as_mut_slice(), 0);
+        let sheet = Sheet::<K>::seal(self.context(), text, &mut holder)?;
+        then(self, sheet, &mut holder)
+    }
+}
+
+// Which bytes of a text are read.
+#[derive(Clone, Copy)]
+struct Part {
+    at: usize,
+    length: usize,
+}
+
+impl Part {
+    fn read(at: &str, length: &str) -> Result<Part, Fault> {
+        Ok(Part {
+            at: number_of(at)?,
+            length: number_of(length)?,
+        })
+    }
+
+    // What a sheet gives there.
+    fn word<K: Permutation, R: ReadBlocks>(
+        self,
+        heap: Global,
+        sheet: &Sheet<K>,
+        h: &R,
+    ) -> Result<String, Fault> {
+        let mut bytes = vec![in heap; 0u8; self.length.min(MAX_READ)]?;
+        sheet.read(h, self.at, bytes.as_mut_slice())?;
+        Ok(excerpt(heap, bytes.as_slice())?)
     }
 }
 
@@ -77,41 +104,54 @@ pub(crate) fn word_of(heap: Global, bytes: &[u8]) -> Result<String, AllocError>
 
 // Block k of a holder, in hex digits.
 pub(crate) fn block_word<R: ReadBlocks>(heap: Global, h: &R, k: usize) -> Result<String, Fault> {
-    let mut block = [0u8; 32];
-    h.get(k, &mut block)?;
-    Ok(to_hex(heap, &block)?)
+    Ok(to_hex(heap, &h.block(k)?)?)
 }
 
 // The bytes, or of many the first and the last.
 fn excerpt(heap: Global, bytes: &[u8]) -> Result<String, AllocError> {
-    if bytes.len() <= 64 {
-        return word_of(heap, bytes);
+    match (bytes.first_chunk::<32>(), bytes.last_chunk::<32>()) {
+        (Some(first), Some(last)) if bytes.len() > 64 => {
+            let first = to_hex(heap, first)?;
+            let last = to_hex(heap, last)?;
+            format!(in heap; "{first}..{last}")
+        }
+        _ => word_of(heap, bytes),
     }
-    let first = to_hex(heap, &bytes[0..32])?;
-    let last = to_hex(heap, &bytes[bytes.len() - 32..])?;
-    format!(in heap; "{first}..{last}")
 }
 
-// Just as much room as a text's blocks take.
-fn room_for(heap: Global, text: &[u8]) -> Result<Vec<u8>, AllocError> {
-    let count = (text.len() / 32).min(4095) + 1;
-    vec![in heap; 0u8; 32 * count]
-}
-
-pub(crate) fn seal_case<K: Permutation>(heap: Global, words: &[&str]) -> Result<String, Fault> {
-    let [key, nonce, label, limit, count, text] = words else {
+// The cases that seal or open a sheet: each begins with what that is done under.
+pub(crate) fn sheet_case<K: Permutation>(
+    heap: Global,
+    name: &str,
+    words: &[&str],
+) -> Result<String, Fault> {
+    let [key, nonce, label, rest @ ..] = words else {
         return Err(Fault::Malformed);
     };
     let under = Under::read(heap, key, nonce, label)?;
-    let text = long_bytes_of(heap, text)?;
-    let limit = number_of(limit)?;
-    let count = number_of(count)?;
-    if limit > 4096 || count > limit {
-        return Err(Fault::Malformed);
+    match (name, rest) {
+        ("seal", [limit, count, text]) => seal_case::<K>(heap, under, limit, count, text),
+        ("open", [tag, blocks]) => open_case::<K>(heap, under, tag, blocks),
+        ("reopen", [text, at, n]) => reopen_case::<K>(heap, under, text, Part::read(at, n)?),
+        ("stale", [text, at, n]) => stale_case::<K>(heap, under, text, Part::read(at, n)?),
+        ("spoilt", [text, what]) => spoilt_case::<K>(heap, under, text, what),
+        _ => Err(Fault::Malformed),
     }
+}
+
+fn seal_case<K: Permutation>(
+    heap: Global,
+    under: Under,
+    limit: &str,
+    count: &str,
+    text: &str,
+) -> Result<String, Fault> {
+    let limit = number_up_to(limit, MAX_BLOCKS)?;
+    let count = number_up_to(count, limit)?;
+    let text = long_bytes_of(heap, text)?;
     let mut room = vec![in heap; 0u8; 32 * limit]?;
     let mut holder = MemoryHolder::new(room.as_mut_slice(), count);
-    let sheet = under.seal::<K, MemoryHolder>(text.as_slice(), &mut holder)?;
+    let sheet = Sheet::<K>::seal(under.context(), text.as_slice(), &mut holder)?;
     let tag = to_hex(heap, &sheet.tag())?;
     let count = holder.count();
     let first = block_word(heap, &holder, 1)?;
@@ -119,18 +159,19 @@ pub(crate) fn seal_case<K: Permutation>(heap: Global, words: &[&str]) -> Result<
     Ok(format!(in heap; "{tag} {count} {first} {last}")?)
 }
 
-pub(crate) fn open_case<K: Permutation>(heap: Global, words: &[&str]) -> Result<String, Fault> {
-    let [key, nonce, label, tag, blocks] = words else {
-        return Err(Fault::Malformed);
-    };
-    let under = Under::read(heap, key, nonce, label)?;
+fn open_case<K: Permutation>(
+    heap: Global,
+    under: Under,
+    tag: &str,
+    blocks: &str,
+) -> Result<String, Fault> {
     let tag = bytes_of(heap, tag)?;
     let blocks = bytes_of(heap, blocks)?;
     if blocks.len() % 32 != 0 {
         return Err(Fault::Malformed);
     }
     let holder = ReceivedHolder::new(blocks.as_slice());
-    let sheet = under.open::<K, ReceivedHolder>(tag.as_slice(), &holder)?;
+    let sheet = Sheet::<K>::open(under.context(), tag.as_slice(), &holder)?;
     let length = sheet.length();
     let mut text = vec![in heap; 0u8; length]?;
     sheet.read(&holder, 0, text.as_mut_slice())?;
@@ -138,60 +179,53 @@ pub(crate) fn open_case<K: Permutation>(heap: Global, words: &[&str]) -> Result<
     Ok(format!(in heap; "{length} {word}")?)
 }
 
-pub(crate) fn reopen_case<K: Permutation>(heap: Global, words: &[&str]) -> Result<String, Fault> {
-    let [key, nonce, label, text, at, n] = words else {
-        return Err(Fault::Malformed);
-    };
-    let under = Under::read(heap, key, nonce, label)?;
+fn reopen_case<K: Permutation>(
+    heap: Global,
+    under: Under,
+    text: &str,
+    part: Part,
+) -> Result<String, Fault> {
     let text = long_bytes_of(heap, text)?;
-    let at = number_of(at)?;
-    let n = number_of(n)?;
-    let mut room = room_for(heap, text.as_slice())?;
-    let mut holder = MemoryHolder::new(room.as_mut_slice(), 0);
-    let tag = under
-        .seal::<K, MemoryHolder>(text.as_slice(), &mut holder)?
-        .tag();
-    let sheet = under.open::<K, MemoryHolder>(&tag, &holder)?;
-    let mut bytes = vec![in heap; 0u8; n.min(MAX_READ)]?;
-    sheet.read(&holder, at, bytes.as_mut_slice())?;
-    let tag = to_hex(heap, &sheet.tag())?;
-    let length = sheet.length();
-    let shown = excerpt(heap, bytes.as_slice())?;
-    Ok(format!(in heap; "{tag} {length} {shown}")?)
+    under.sealed(heap, text.as_slice(), |under, sheet: Sheet<K>, holder| {
+        let sheet = Sheet::<K>::open(under.context(), &sheet.tag(), holder)?;
+        let shown = part.word(heap, &sheet, holder)?;
+        let tag = to_hex(heap, &sheet.tag())?;
+        let length = sheet.length();
+        Ok(format!(in heap; "{tag} {length} {shown}")?)
+    })
 }
 
 // A sheet whose holder lost its last block since it was sealed.
-pub(crate) fn stale_case<K: Permutation>(heap: Global, words: &[&str]) -> Result<String, Fault> {
-    let [key, nonce, label, text, at, n] = words else {
-        return Err(Fault::Malformed);
-    };
-    let under = Under::read(heap, key, nonce, label)?;
+fn stale_case<K: Permutation>(
+    heap: Global,
+    under: Under,
+    text: &str,
+    part: Part,
+) -> Result<String, Fault> {
     let text = long_bytes_of(heap, text)?;
-    let at = number_of(at)?;
-    let n = number_of(n)?;
-    let mut room = room_for(heap, text.as_slice())?;
-    let mut holder = MemoryHolder::new(room.as_mut_slice(), 0);
-    let sheet = under.seal::<K, MemoryHolder>(text.as_slice(), &mut holder)?;
-    holder.drop_last()?;
-    let mut bytes = vec![in heap; 0u8; n.min(MAX_READ)]?;
-    sheet.read(&holder, at, bytes.as_mut_slice())?;
-    Ok(excerpt(heap, bytes.as_slice())?)
+    under.sealed(heap, text.as_slice(), |_under, sheet: Sheet<K>, holder| {
+        holder.drop_last()?;
+        part.word(heap, &sheet, holder)
+    })
 }
 
-pub(crate) fn spoilt_case<K: Permutation>(heap: Global, words: &[&str]) -> Result<String, Fault> {
-    let [key, nonce, label, text, what] = words else {
-        return Err(Fault::Malformed);
-    };
-    let mut under = Under::read(heap, key, nonce, label)?;
+fn spoilt_case<K: Permutation>(
+    heap: Global,
+    under: Under,
+    text: &str,
+    what: &str,
+) -> Result<String, Fault> {
     let text = long_bytes_of(heap, text)?;
-    let mut room = room_for(heap, text.as_slice())?;
-    let mut holder = MemoryHolder::new(room.as_mut_slice(), 0);
-    let mut tag = under
-        .seal::<K, MemoryHolder>(text.as_slice(), &mut holder)?
-        .tag();
-    spoil(what, &mut under, &mut tag, &mut holder)?;
-    let length = under.open::<K, MemoryHolder>(&tag, &holder)?.length();
-    Ok(format!(in heap; "{length}")?)
+    under.sealed(
+        heap,
+        text.as_slice(),
+        |mut under, sheet: Sheet<K>, holder| {
+            let mut tag = sheet.tag();
+            spoil(what, &mut under, &mut tag, holder)?;
+            let length = Sheet::<K>::open(under.context(), &tag, holder)?.length();
+            Ok(format!(in heap; "{length}")?)
+        },
+    )
 }
 
 fn spoil<H: WriteBlocks>(
@@ -207,9 +241,7 @@ fn spoil<H: WriteBlocks>(
         "tag" => tag[15] ^= 0x80,
         "drop" => h.drop_last()?,
         _ => {
-            let Some(k) = what.strip_prefix("block:") else {
-                return Err(Fault::Malformed);
-            };
+            let k = what.strip_prefix("block:").ok_or(Fault::Malformed)?;
             spoil_block(h, number_of(k)?)?;
         }
     }
@@ -217,14 +249,13 @@ fn spoil<H: WriteBlocks>(
 }
 
 fn flip_first(bytes: &mut [u8]) {
-    if bytes.len() > 0 {
-        bytes[0] ^= 1;
+    if let Some(first) = bytes.first_mut() {
+        *first ^= 1;
     }
 }
 
 fn spoil_block<H: WriteBlocks>(h: &mut H, k: usize) -> Result<(), Refusal> {
-    let mut block = [0u8; 32];
-    h.get(k, &mut block)?;
-    block[0] ^= 1;
+    let mut block = h.block(k)?;
+    flip_first(&mut block);
     h.put(k, &block)
 }

@@ -6,12 +6,13 @@ use Rattle.vestmortar.specs.declared.args.Command.{Command}
 use Rattle.vestmortar.specs.declared.args.Command.TheVariants.{Plate, Check, Run, Sheet, Help}
 use Rattle.vestmortar.specs.declared.failure.Misuse.{Misuse}
 use Rattle.vestmortar.specs.declared.failure.Misuse.TheVariants.{NoPlateFile}
+use Rattle.vestmortar.specs.declared.flag.Flag.TheVariants.{Key, Tag}
 use Rattle.vestmortar.specs.declared.options.Options.{Options}
-use Rattle.vestmortar.specs.Options.{no_sheet_options}
+use Rattle.vestmortar.specs.Options.{value_of, NoSheetOptions}
 
 -- the commands that options make
 abbrev pub Plates : Options → Command → Type 0
-Plates o (Plate key plate) = (o.key ≡ Some key) × (o.tag ≡ None) × (o.sheet ≡ no_sheet_options) × (o.file ≡ plate)
+Plates o (Plate key plate) = (value_of Key o ≡ Some key) × (value_of Tag o ≡ None) × NoSheetOptions o × (o.file ≡ plate)
 Plates o (Check key tag plate) = ⊥
 Plates o (Run script) = ⊥
 Plates o (Sheet s) = ⊥
@@ -20,7 +21,7 @@ Plates o Help = ⊥
 abbrev pub Checks : Options → Command → Type 0
 Checks o (Plate key plate) = ⊥
 Checks o (Check key tag plate) =
-    (o.key ≡ Some key) × ((digits : String Global) × (o.tag ≡ Some digits) × Spells (string_bytes digits) (vec_items tag)) × (o.sheet ≡ no_sheet_options) × (o.file ≡ plate)
+    (value_of Key o ≡ Some key) × ((digits : String Global) × (value_of Tag o ≡ Some digits) × Spells (string_bytes digits) (vec_items tag)) × NoSheetOptions o × (o.file ≡ plate)
 Checks o (Run script) = ⊥
 Checks o (Sheet s) = ⊥
 Checks o Help = ⊥
@@ -28,7 +29,7 @@ Checks o Help = ⊥
 abbrev pub Runs : Options → Command → Type 0
 Runs o (Plate key plate) = ⊥
 Runs o (Check key tag plate) = ⊥
-Runs o (Run script) = (o.key ≡ None) × (o.tag ≡ None) × (o.sheet ≡ no_sheet_options) × (o.file ≡ script)
+Runs o (Run script) = (value_of Key o ≡ None) × (value_of Tag o ≡ None) × NoSheetOptions o × (o.file ≡ script)
 Runs o (Sheet s) = ⊥
 Runs o Help = ⊥
 

@@ -1,7 +1,7 @@
 -- How the commands of a script are counted.
 use Rattle.std.specs.Prelude.{ℕ, ◌+◌, ◌-◌, ◌^◌, min, Ok, Err, Result}
 use Rattle.vestmortar.specs.declared.failure.Failure.{Failure}
-use Rattle.vestmortar.specs.declared.failure.Failure.TheVariants.{Declined, Usage, Unreadable, KeyNotHex, KeyOdd, Output, Memory}
+use Rattle.vestmortar.specs.declared.failure.Failure.TheVariants.{Declined, Usage, Unreadable, NotHex, OddDigits, Output, Memory}
 use Rattle.vestmortar.specs.declared.script.Tally.{Tally}
 use Rattle.vestmortar.specs.declared.work.Outcome.{Outcome}
 
@@ -23,7 +23,7 @@ counted (Ok outcome) t = one_taken t
 counted (Err (Declined refusal)) t = one_declined t
 counted (Err (Usage misuse)) t = one_wrong t
 counted (Err (Unreadable name error)) t = one_wrong t
-counted (Err (KeyNotHex name)) t = one_wrong t
-counted (Err (KeyOdd name)) t = one_wrong t
+counted (Err (NotHex place)) t = one_wrong t
+counted (Err (OddDigits place)) t = one_wrong t
 counted (Err (Output error)) t = one_wrong t
 counted (Err Memory) t = one_wrong t

@@ -1,11 +1,14 @@
 -- What comes of a command, and what is said of it.
-use Rattle.std.specs.Prelude.{◌≡◌, ℕ, ◌<◌, ◌≤◌, true, List, ◌++◌, length, take, drop, Some, None, Ok, Err, string_bytes, codes, decimal, Option, Result, slice_index}
+use Rattle.std.specs.Prelude.{◌≡◌, ℕ, ◌<◌, ◌≤◌, true, List, ◌++◌, length, take, drop, Some, None, Ok, Err, string_bytes, codes, decimal, Option, Result, String, slice_index}
 use Rattle.std.specs.Char.{is_ascii_whitespace}
 use Rattle.modes.specs.declared.refusal.Refusal.{Refusal}
 use Rattle.text.specs.Hex.{hex_of, Spells}
 use Rattle.text.specs.Words.{reason_text, refusal_text}
+use Rattle.std.specs.declared.alloc.Global.{Global}
+use Rattle.vestmortar.specs.declared.digits.Place.TheVariants.{InKeyFile}
+use Rattle.vestmortar.specs.Digits.{Misspells}
 use Rattle.vestmortar.specs.declared.failure.Failure.{Failure}
-use Rattle.vestmortar.specs.declared.failure.Failure.TheVariants.{Declined, Usage, Unreadable, KeyNotHex, KeyOdd, Output, Memory}
+use Rattle.vestmortar.specs.declared.failure.Failure.TheVariants.{Declined, Usage, Unreadable, NotHex, OddDigits, Output, Memory}
 use Rattle.vestmortar.specs.declared.work.Outcome.{Outcome}
 use Rattle.vestmortar.specs.declared.work.Outcome.TheVariants.{Tag, Agreed, Sealed, Kept, Opened, Read, Damaged, Help}
 
@@ -20,6 +23,20 @@ Amid text digits =
 abbrev pub HoldsKey : List ℕ → List ℕ → Type 0
 HoldsKey text key = (digits : List ℕ) × Amid text digits × Spells digits key
 
+-- or they spell none, which the failure says of the file with this name
+abbrev pub LacksKey : List ℕ → String Global → Failure → Type 0
+LacksKey text name failure = (digits : List ℕ) × Amid text digits × Misspells digits (InKeyFile name) failure
+
+-- a failure is the library's refusal, where it answers `a`, or memory ran out
+abbrev pub Declines : {A : Type 0} → Result A Refusal → Failure → Type 0
+Declines a (Declined refusal) = a ≡ Err refusal
+Declines a (Usage misuse) = ⊥
+Declines a (Unreadable name error) = ⊥
+Declines a (NotHex place) = ⊥
+Declines a (OddDigits place) = ⊥
+Declines a (Output error) = ⊥
+Declines a Memory = Unit {0}
+
 -- the outcome of signing, where the library answers `a`
 abbrev pub Signs : Result (List ℕ) Refusal → Result Outcome Failure → Type 0
 Signs a (Ok (Tag digits)) = (tag : List ℕ) × (a ≡ Ok tag) × (string_bytes digits ≡ hex_of tag)
@@ -30,13 +47,7 @@ Signs a (Ok (Opened n)) = ⊥
 Signs a (Ok (Read text)) = ⊥
 Signs a (Ok (Damaged k)) = ⊥
 Signs a (Ok Help) = ⊥
-Signs a (Err (Declined refusal)) = a ≡ Err refusal
-Signs a (Err (Usage misuse)) = ⊥
-Signs a (Err (Unreadable name error)) = ⊥
-Signs a (Err (KeyNotHex name)) = ⊥
-Signs a (Err (KeyOdd name)) = ⊥
-Signs a (Err (Output error)) = ⊥
-Signs a (Err Memory) = Unit {0}
+Signs a (Err failure) = Declines a failure
 
 -- the outcome of a check, where the library answers `a`
 abbrev pub checked : Result (Unit {0}) Refusal → Result Outcome Failure
@@ -61,7 +72,7 @@ abbrev pub failure_text : Failure → Option (List ℕ)
 failure_text (Declined refusal) = Some (codes "declined: " ++ (refusal_text refusal ++ (codes ": " ++ reason_text refusal.reason)))
 failure_text (Usage misuse) = None
 failure_text (Unreadable name error) = None
-failure_text (KeyNotHex name) = None
-failure_text (KeyOdd name) = None
+failure_text (NotHex place) = None
+failure_text (OddDigits place) = None
 failure_text (Output error) = None
 failure_text Memory = None

@@ -9,7 +9,8 @@ use Rattle.sheet.specs.Chunks.{wholes}
 use Rattle.sheet.specs.Ciphers.{cipher_of}
 use Rattle.sheet.specs.Holders.{no_such_block}
 use Rattle.vestmortar.specs.declared.failure.Failure.{Failure}
-use Rattle.vestmortar.specs.declared.failure.Failure.TheVariants.{Declined, Usage, Unreadable, KeyNotHex, KeyOdd, Output, Memory}
+use Rattle.vestmortar.specs.declared.memory.Kept.{Kept}
+use Rattle.vestmortar.specs.Outcomes.{Declines}
 
 -- the tag of what was sealed, where the library answers so
 abbrev pub tagged : (forth back : List ℕ → List ℕ) → Result State Refusal → Result (List ℕ) Refusal
@@ -19,6 +20,11 @@ tagged forth back (Err refusal) = Err refusal
 -- sealing into empty memory with room for so many blocks
 abbrev pub seal_tag : (forth back : List ℕ → List ℕ) (key nonce label text : List ℕ) (room : ℕ) → Result (List ℕ) Refusal
 seal_tag forth back key nonce label text room = tagged forth back (seal_answer (cipher_of forth back key nonce) key nonce label text room [])
+
+-- the outcome of sealing under a nonce, where the tag or refusal is `a`
+abbrev pub Keeps : Result (List ℕ) Refusal → Vec ℕ Global → Result Kept Failure → Type 0
+Keeps a nonce (Ok kept) = (a ≡ Ok kept.tag) × (kept.nonce ≡ nonce)
+Keeps a nonce (Err failure) = Declines a failure
 
 -- a block of the bytes is flipped if it is there
 abbrev pub flip_answer : List ℕ → ℕ → Result (Unit {0}) Refusal
@@ -31,10 +37,4 @@ flipped block = slice_set block 0 (bit_xor (slice_index block 0) 1)
 -- the outcome of reading n bytes from a position of an open sheet with these blocks
 abbrev pub Reads : (forth back : List ℕ → List ℕ) → State → List (List ℕ) → ℕ → ℕ → Result (Vec ℕ Global) Failure → Type 0
 Reads forth back s bs at n (Ok v) = (read_answer s bs at n ≡ Ok tt) × (vec_items v ≡ read_bytes (under forth back s) s bs at n)
-Reads forth back s bs at n (Err (Declined refusal)) = read_answer s bs at n ≡ Err refusal
-Reads forth back s bs at n (Err (Usage misuse)) = ⊥
-Reads forth back s bs at n (Err (Unreadable name error)) = ⊥
-Reads forth back s bs at n (Err (KeyNotHex name)) = ⊥
-Reads forth back s bs at n (Err (KeyOdd name)) = ⊥
-Reads forth back s bs at n (Err (Output error)) = ⊥
-Reads forth back s bs at n (Err Memory) = Unit {0}
+Reads forth back s bs at n (Err failure) = Declines (read_answer s bs at n) failure

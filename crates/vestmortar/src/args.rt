@@ -2,11 +2,12 @@
 ghost use Rattle.std.specs.Prelude.{IfOk};
 ghost use Rattle.vestmortar.specs.Commands.{Plates, Checks, Runs, Begins};
 
-use crate::failure::{Failure, Flag, Misuse, tag_failure};
-use crate::options::{Options, absent, required};
+use crate::digits::{Place, read_hex};
+use crate::failure::{Failure, Misuse};
+use crate::flag::Flag;
+use crate::options::Options;
 use crate::sheet_args::{SheetCommand, parse_sheet};
 use std::alloc::Global;
-use text::hex::parse_hex;
 
 #[derive(Drop)]
 pub enum Command {
@@ -26,66 +27,42 @@ pub enum Command {
     Help,
 }
 
-fn plate_command(options: Options) -> Result<Command, Failure>
+fn plate_command(mut options: Options) -> Result<Command, Failure>
     ensures { IfOk result (λ c. Plates options c) }
 {
-    let Options {
-        key,
-        tag,
-        file,
-        sheet,
-    } = options;
-    absent(tag, Flag::Tag)?;
-    sheet.none()?;
+    options.only(&[Flag::Key])?;
     Ok(Command::Plate {
-        key: required(key, Flag::Key)?,
-        plate: file,
+        key: options.required(Flag::Key)?,
+        plate: options.file,
     })
 }
 
-fn check_command(heap: Global, options: Options) -> Result<Command, Failure>
+fn check_command(heap: Global, mut options: Options) -> Result<Command, Failure>
     ensures { IfOk result (λ c. Checks options c) }
 {
-    let Options {
+    options.only(&[Flag::Key, Flag::Tag])?;
+    let key = options.required(Flag::Key)?;
+    let digits = options.required(Flag::Tag)?;
+    Ok(Command::Check {
         key,
-        tag,
-        file,
-        sheet,
-    } = options;
-    sheet.none()?;
-    let key = required(key, Flag::Key)?;
-    let digits = required(tag, Flag::Tag)?;
-    match parse_hex(heap, digits.as_bytes()) {
-        Ok(tag) => Ok(Command::Check {
-            key,
-            tag,
-            plate: file,
-        }),
-        Err(error) => Err(tag_failure(error)),
-    }
+        tag: read_hex(heap, digits.as_bytes(), Place::After(Flag::Tag))?,
+        plate: options.file,
+    })
 }
 
 fn run_command(options: Options) -> Result<Command, Failure>
     ensures { IfOk result (λ c. Runs options c) }
 {
-    let Options {
-        key,
-        tag,
-        file,
-        sheet,
-    } = options;
-    absent(key, Flag::Key)?;
-    absent(tag, Flag::Tag)?;
-    sheet.none()?;
-    Ok(Command::Run { script: file })
+    options.only(&[])?;
+    Ok(Command::Run {
+        script: options.file,
+    })
 }
 
 pub(crate) fn parse(heap: Global, words: &[String]) -> Result<Command, Failure>
     ensures { IfOk result (λ c. Begins words.now c) }
 {
-    let Some((name, rest)) = words.split_first() else {
-        return Err(Misuse::NoCommand.into());
-    };
+    let (name, rest) = words.split_first().ok_or(Misuse::NoCommand)?;
     match name.as_str() {
         "plate" => plate_command(Options::read(rest)?),
         "check" => check_command(heap, Options::read(rest)?),

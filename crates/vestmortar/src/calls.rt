@@ -10,6 +10,7 @@ ghost use Rattle.vestmortar.specs.Sheets.{seal_tag, flip_answer, flipped, Reads}
 use crate::failure::Failure;
 use modes::refusal::Refusal;
 use permutation::Permutation;
+use sheet::context::Context;
 use sheet::holder::{ReadBlocks, WriteBlocks};
 use sheet::memory::MemoryHolder;
 use sheet::received::ReceivedHolder;
@@ -18,38 +19,27 @@ use std::alloc::Global;
 
 // Seals a text into bytes with room for its blocks: the library's tag, or its refusal.
 pub(crate) fn seal_bytes<K: Permutation>(
-    key: &[u8],
-    nonce: &[u8],
-    label: &[u8],
+    context: Context<'_>,
     text: &[u8],
     bytes: &mut [u8],
 ) -> Result<[u8; 16], Refusal>
-    ensures { result ≡ seal_tag K.Permutation.forth K.Permutation.back key.now nonce.now label.now text.now (room_of bytes.old) }
+    ensures { result ≡ seal_tag K.Permutation.forth K.Permutation.back context.entry.key.now context.entry.nonce.now context.entry.label.now text.now (room_of bytes.old) }
 {
     let mut holder = MemoryHolder::new(bytes, 0);
-    let sheet = Sheet::<K>::seal(key, nonce, label, text, &mut holder)?;
+    let sheet = Sheet::<K>::seal(context, text, &mut holder)?;
     Ok(sheet.tag())
 }
 
 // Opens the blocks that the bytes are: the library's sheet, or its refusal.
 pub(crate) fn open_bytes<K: Permutation>(
-    key: &[u8],
-    nonce: &[u8],
-    label: &[u8],
+    context: Context<'_>,
     tag: &[u8],
     bytes: &[u8],
 ) -> Result<Sheet<K>, Refusal>
-    ensures { stated result ≡ open_answer (cipher_of K.Permutation.forth K.Permutation.back key.now nonce.now) key.now nonce.now label.now tag.now (wholes bytes.now) }
+    ensures { stated result ≡ open_answer (cipher_of K.Permutation.forth K.Permutation.back context.entry.key.now context.entry.nonce.now) context.entry.key.now context.entry.nonce.now context.entry.label.now tag.now (wholes bytes.now) }
 {
     let holder = ReceivedHolder::new(bytes);
-    Sheet::<K>::open(key, nonce, label, tag, &holder)
-}
-
-// The length of an open sheet's text.
-pub(crate) fn length_of<K: Permutation>(sheet: &Sheet<K>) -> usize
-    ensures { result ≡ sheet.now.state.length }
-{
-    sheet.length()
+    Sheet::<K>::open(context, tag, &holder)
 }
 
 // Reads from the sheet that the bytes are the blocks of, as many bytes as the buffer holds.
@@ -88,8 +78,7 @@ pub(crate) fn flip_block(bytes: &mut [u8], k: usize) -> Result<(), Refusal>
 {
     let count = bytes.len() / 32;
     let mut holder = MemoryHolder::new(bytes, count);
-    let mut block = [0u8; 32];
-    holder.get(k, &mut block)?;
+    let mut block = holder.block(k)?;
     block[0] ^= 1;
     holder.put(k, &block)
 }

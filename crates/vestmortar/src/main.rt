@@ -3,7 +3,9 @@
 
 mod args;
 mod calls;
+mod digits;
 mod failure;
+mod flag;
 mod kind;
 mod memory;
 mod options;

@@ -1,7 +1,8 @@
 // What the program says.
 ghost use Rattle.vestmortar.specs.Outcomes.{outcome_text, failure_text};
 
-use crate::failure::{Failure, Flag, Misuse};
+use crate::digits::Place;
+use crate::failure::Failure;
 use crate::work::Outcome;
 use std::fmt;
 use text::words::{Shown, reason_words};
@@ -49,6 +50,7 @@ A command that is declined says so on standard error, with the reason's number,
 layer and place, and ends with status 1, as any error does. A script goes on
 after both, and ends with how many commands were taken, declined and wrong.";
 
+// By hand, as for failures below: a derived Display states no text.
 impl fmt::Display for Outcome {
     ghost output = { outcome_text };
 
@@ -72,62 +74,6 @@ impl fmt::Display for Outcome {
     }
 }
 
-impl fmt::Display for Flag {
-    fn fmt<W: fmt::Write>(&self, f: &mut fmt::Formatter<W>) -> fmt::Result {
-        match self {
-            Flag::Key => write!(f, "--key"),
-            Flag::Tag => write!(f, "--tag"),
-            Flag::Nonce => write!(f, "--nonce"),
-            Flag::Label => write!(f, "--label"),
-            Flag::At => write!(f, "--at"),
-            Flag::Bytes => write!(f, "--bytes"),
-            Flag::Block => write!(f, "--block"),
-        }
-    }
-}
-
-impl fmt::Display for Misuse {
-    fn fmt<W: fmt::Write>(&self, f: &mut fmt::Formatter<W>) -> fmt::Result {
-        match self {
-            Misuse::NoCommand => write!(f, "no command is given; see vestmortar --help"),
-            Misuse::UnknownCommand(word) => write!(
-                f,
-                "there is no command {word}; see vestmortar --help"
-            ),
-            Misuse::NoSheetCommand => write!(
-                f,
-                "no command of a sheet is given; see vestmortar --help"
-            ),
-            Misuse::UnknownSheetCommand(word) => write!(
-                f,
-                "there is no command sheet {word}; see vestmortar --help"
-            ),
-            Misuse::UnknownOption(word) => write!(f, "there is no option {word}"),
-            Misuse::ExtraWord(word) => write!(f, "the word {word} is one too many"),
-            Misuse::NoValue(flag) => write!(f, "nothing stands after {flag}"),
-            Misuse::Missing(flag) => write!(f, "the option {flag} is missing"),
-            Misuse::Twice(flag) => write!(f, "the option {flag} is given twice"),
-            Misuse::NotTaken(flag) => write!(f, "this command takes no {flag}"),
-            Misuse::TagNotHex => write!(f, "the tag is not in hex digits"),
-            Misuse::TagOdd => write!(f, "the tag has an odd number of hex digits"),
-            Misuse::NonceNotHex => write!(f, "the nonce is not in hex digits"),
-            Misuse::NonceOdd => write!(f, "the nonce has an odd number of hex digits"),
-            Misuse::NotNumber(flag) => write!(f, "what stands after {flag} is no number that fits"),
-            Misuse::NoPlateFile => write!(f, "in a script a plate must be a file"),
-            Misuse::NoTextFile => write!(f, "no file is named to be sealed"),
-            Misuse::NoSheet => write!(f, "there is no sheet in memory"),
-            Misuse::OnlyInScripts => write!(f, "a sheet in memory is only for scripts"),
-            Misuse::NestedRun => write!(f, "a script cannot run a script"),
-            Misuse::NoKind => write!(f, "nothing stands after --kind"),
-            Misuse::UnknownKind(word) => write!(
-                f,
-                "there is no kind {word}; there are rows and matrices"
-            ),
-            Misuse::NotText => write!(f, "the script is not UTF-8 text"),
-        }
-    }
-}
-
 impl fmt::Display for Failure {
     ghost output = { failure_text };
 
@@ -147,14 +93,22 @@ impl fmt::Display for Failure {
                 f,
                 "error: standard input cannot be read: {error}"
             ),
-            Failure::KeyNotHex(name) => write!(
+            Failure::NotHex(Place::InKeyFile(name)) => write!(
                 f,
                 "error: the key file {name} does not hold hex digits"
             ),
-            Failure::KeyOdd(name) => write!(
+            Failure::NotHex(Place::After(flag)) => {
+                let name = flag.name();
+                write!(f, "error: the {name} is not in hex digits")
+            }
+            Failure::OddDigits(Place::InKeyFile(name)) => write!(
                 f,
                 "error: the key file {name} holds an odd number of hex digits"
             ),
+            Failure::OddDigits(Place::After(flag)) => {
+                let name = flag.name();
+                write!(f, "error: the {name} has an odd number of hex digits")
+            }
             Failure::Output(error) => write!(f, "error: the output cannot be written: {error}"),
             Failure::Memory => write!(f, "error: there is not enough memory"),
         }

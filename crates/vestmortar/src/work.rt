@@ -1,16 +1,17 @@
 // Does a command: reads its files, and calls the library.
-ghost use Rattle.std.specs.Prelude.{◌≡◌, IfOk};
+ghost use Rattle.std.specs.Prelude.{◌≡◌, MatchResult};
 ghost use Rattle.modes.specs.Sums.{mac_answer, check_answer};
-ghost use Rattle.vestmortar.specs.Outcomes.{HoldsKey, Signs, checked};
+ghost use Rattle.vestmortar.specs.Outcomes.{HoldsKey, LacksKey, Signs, checked};
 
 use crate::args::Command;
-use crate::failure::{Failure, Misuse, key_failure};
+use crate::digits::{Place, read_hex};
+use crate::failure::{Failure, Misuse};
 use modes::plate::{plate_check, plate_mac};
 use permutation::Permutation;
 use std::alloc::Global;
 use std::fs;
 use std::io::Read;
-use text::hex::{parse_hex, to_hex};
+use text::hex::to_hex;
 
 #[derive(Drop)]
 pub enum Outcome {
@@ -43,31 +44,26 @@ pub(crate) fn read_source(rt: &HostRuntime, name: Option<String>) -> Result<Vec<
     let Some(name) = name else {
         return read_input(rt);
     };
-    match fs::read(rt, name.as_str()) {
-        Ok(bytes) => Ok(bytes),
-        Err(error) => Err(Failure::Unreadable(Some(name), error)),
-    }
+    fs::read(rt, name.as_str()).map_err(|error| Failure::Unreadable(Some(name), error))
 }
 
 fn read_input(rt: &HostRuntime) -> Result<Vec<u8>, Failure> {
     let mut bytes = Vec::new(rt.alloc());
-    match rt.stdin().read_to_end(&mut bytes) {
-        Ok(_) => Ok(bytes),
-        Err(error) => Err(Failure::Unreadable(None, error)),
-    }
+    rt.stdin()
+        .read_to_end(&mut bytes)
+        .map_err(|error| Failure::Unreadable(None, error))?;
+    Ok(bytes)
 }
 
 // The key in a file's text, of whatever length it is: the library judges that.
 fn key_in(heap: Global, name: String, text: &[u8]) -> Result<Vec<u8>, Failure>
-    ensures { IfOk result (λ key. HoldsKey text.now key.items) }
+    ensures { MatchResult result (λ key. HoldsKey text.now key.items) (λ failure. LacksKey text.now name failure) }
 {
-    match parse_hex(heap, text.trim_ascii()) {
-        Ok(key) => Ok(key),
-        Err(error) => Err(key_failure(name, error)),
-    }
+    read_hex(heap, text.trim_ascii(), Place::InKeyFile(name))
 }
 
 pub(crate) fn read_key(rt: &HostRuntime, name: String) -> Result<Vec<u8>, Failure> {
+    // Stays a match: each arm gives the name away.
     match fs::read(rt, name.as_str()) {
         Ok(text) => key_in(rt.alloc(), name, text.as_slice()),
         Err(error) => Err(Failure::Unreadable(Some(name), error)),

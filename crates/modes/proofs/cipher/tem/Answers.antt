@@ -1,32 +1,12 @@
-use Rattle.std.proofs.Common.{sym, ap, ◌∙◌, rules}
-use Rattle.std.proofs.lemmas.Result.{err_from_is_err_and}
-use Rattle.modes.specs.Cipher.{masked, tem_claims, tem_reverse}
-use Rattle.modes.specs.CipherLaws.{tem_sizes, tem_undone}
-use Rattle.modes.specs.RefusalLaws.{answer_err, answer_ok}
+use Rattle.std.proofs.Common.{rules}
+use Rattle.modes.specs.Cipher.{tem_claims}
+use Rattle.modes.proofs.Undoing.{given_undone}
 use Rattle.modes.proofs.cipher.tem.Goals as goal
 
-pub returns-in_err-mask : goal.returns-in_err-mask
-returns-in_err-mask g c =
-    let p = err_from_is_err_and c.from_residual.result c.from_residual.ensures.1 in
-    let e = c.in_err-mask.ensures in
-    let claims = tem_claims c.args.key.now c.args.nonce.now c.args.i c.args.j c.args.block.now in
-    rw (p.1, p.2) (record { value = sym (answer_err claims _ _ _ (sym e)); undone = tt })
-
-pub returns : goal.returns
-returns g c =
-    let key = c.args.key.now in
-    let nonce = c.args.nonce.now in
-    let x = c.args.block.now in
-    let e = c.in_ok-mask.ensures in
-    let claims = tem_claims key nonce c.args.i c.args.j x in
-    let sizes = tem_sizes key nonce c.args.i c.args.j x _ _ e in
-    let law = tem_undone g.K.Permutation.forth g.K.Permutation.back g.met.K.Permutation.inverse key c.args.usage nonce
-    (sizes.0, λ i h. search rules) (sizes.1, λ i h. search rules) c.args.i c.args.j x (sizes.2, λ i h. search rules) in
-    let given = (answer_ok claims _ _ x (sym e)).0 in
-    record {
-      value = search rules;
-      undone =
-          ap (tem_reverse g.K.Permutation.forth g.K.Permutation.back key c.args.usage nonce c.args.i c.args.j)
-          (c.encipher.ensures ∙ ap (λ p. masked g.K.Permutation.forth p.0.bytes p.1) given)
-          ∙ law;
-    }
+pub returns-clause-undone : goal.returns-clause-undone
+returns-clause-undone g c =
+    let k = g.K.Permutation in
+    let law = g.met.K.Permutation.inverse in
+    let t = c.args.tweak in
+    given_undone k.forth k.back law.forth_block law.undone (tem_claims c.args.key.now t.nonce.now t.i t.j c.args.block.now) _
+    c.in_ok-mask.mask c.in_ok-mask.bytes c.encipher.result c.in_ok-mask.ensures c.encipher.ensures (search rules) (search rules)

@@ -1,11 +1,12 @@
-use Rattle.std.proofs.Common.{sym, subst}
-use Rattle.modes.specs.PlateLaws.{exactly_its_mac}
-use Rattle.modes.specs.Sums.{ExactlyItsMac}
+use Rattle.std.proofs.Common.{rules}
+use Rattle.modes.specs.PlateLaws.{exactly_at}
 use Rattle.modes.proofs.plate.plate_check.Goals as goal
 
-pub returns : goal.returns
-returns g c =
-    let f = g.K.Permutation.forth in
-    let e = c.checked.ensures in
-    let law = exactly_its_mac f c.args.key.now c.args.plate.now c.args.tag.now in
-    record { value = e; exactly = subst (λ r. ExactlyItsMac f c.args.key.now c.args.plate.now c.args.tag.now r) (sym e) law }
+pub returns-in_err-tag-clause-exactly : goal.returns-in_err-tag-clause-exactly
+returns-in_err-tag-clause-exactly g c = exactly_at g.K.Permutation.forth c.args.key.now c.args.plate.now c.args.tag.now _ (search rules)
+
+pub returns-then-not-same_bytes-clause-exactly : goal.returns-then-not-same_bytes-clause-exactly
+returns-then-not-same_bytes-clause-exactly g c = exactly_at g.K.Permutation.forth c.args.key.now c.args.plate.now c.args.tag.now _ (search rules)
+
+pub returns-clause-exactly : goal.returns-clause-exactly
+returns-clause-exactly g c = exactly_at g.K.Permutation.forth c.args.key.now c.args.plate.now c.args.tag.now _ (search rules)

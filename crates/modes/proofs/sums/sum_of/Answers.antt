@@ -1,5 +1,5 @@
-use Rattle.std.proofs.Common.{ap, ◌∙◌, rules}
-use Rattle.modes.specs.Sums.{label_sum, chain}
+use Rattle.std.proofs.Common.{rules}
+use Rattle.modes.specs.Sums.{label_sum}
 use Rattle.modes.proofs.sums.sum_of.Goals as goal
 
 pub returns-then-is_empty : goal.returns-then-is_empty
@@ -8,6 +8,4 @@ returns-then-is_empty g c = search rules
 
 pub returns : goal.returns
 unfolding label_sum
-returns g c =
-    let e = c.chained.ensures ∙ ap (λ l. chain g.K.Permutation.forth l c.args.label.now) c.base.ensures in
-    search rules
+returns g c = search rules

@@ -11,7 +11,7 @@ returns-then-i-count g c =
           put_resealed g.K.Permutation.forth g.K.Permutation.back _ _ _ c.args.odd.bytes (g.H.ReadBlocks.list c.args.h.now) c.args.i
           c.decipher-plain.result c.encipher-block.result _ (omega arith)
           (c.decipher-plain.ensures ∙ ap (masked g.K.Permutation.back c.args.odd.bytes) c.held_block.ensures)
-          (c.encipher-block.ensures ∙ ap (masked g.K.Permutation.forth c.args.odd.bytes) c.block_after.ensures)
+          (c.encipher-block.ensures ∙ ap (masked g.K.Permutation.forth c.args.odd.bytes) c.block.ensures)
           c.put_block.ensures.after;
       same_room = c.put_block.ensures.same_room;
     }
@@ -23,7 +23,7 @@ returns-else-i-count g c =
       after =
           add_resealed g.K.Permutation.forth g.K.Permutation.back _ _ _ c.args.odd.bytes (g.H.ReadBlocks.list c.args.h.now) c.args.i
           c.encipher-block-else-i-count.result _ (omega arith)
-          (c.encipher-block-else-i-count.ensures ∙ ap (masked g.K.Permutation.forth c.args.odd.bytes) c.block_after-else-i-count.ensures)
+          (c.encipher-block-else-i-count.ensures ∙ ap (masked g.K.Permutation.forth c.args.odd.bytes) c.block-else-i-count.ensures)
           c.add_block.ensures.after;
       same_room = c.add_block.ensures.same_room;
     }

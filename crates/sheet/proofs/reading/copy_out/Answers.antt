@@ -13,6 +13,7 @@ visit-requires g c =
     let small = b.small in
     let count = c.count-count.ensures.value in
     let end = c.min-k-end.ensures in
+    let blocks = c.div_ceil.ensures in
     let size : length c.loop-k.out ≡ length c.args.out.now = search rules in
     (omega arith, (omega arith, omega arith))
 
@@ -43,5 +44,6 @@ pub returns : goal.returns
 returns g c = λ i h.
     let count = c.count-count.ensures.value in
     let end = c.min-k-end.ensures in
+    let blocks = c.div_ceil.ensures in
     let p = c.requires in
     c.loop-k.invariant.1 i h (omega arith)

@@ -1,6 +1,5 @@
 use Rattle.std.proofs.Common.{◌≡◌, ◌+◌, ◌-◌, ◌*◌, ◌/◌, [], ◌∷◌, ◌++◌, map, length, drop, sym, ap, ◌∙◌, arith}
 use Rattle.std.proofs.lemmas.List.FromFn.{length-map-range_with_len, map-range_with_len_more}
-use Rattle.std.proofs.lemmas.List.{take_rest}
 use Rattle.std.specs.List.{range_with_len}
 use Rattle.permutation.specs.Blocks.{◌⊕◌}
 use Rattle.modes.specs.Cipher.{masked}
@@ -31,7 +30,7 @@ returns g c =
     let l = c.base-base.result.bytes in
     let whole : length t / 32 * 32 ≡ 32 * n = omega arith in
     let mask = odd_mask l n c.seal_inner.result.0.bytes c.seal_inner.ensures.mask c.stepped.result.bytes c.stepped.ensures in
-    let plain = c.first_block-last.ensures ∙ ap (λ y. block_at y 1) (take_rest t (length t / 32 * 32))
+    let plain = c.first_block-last.ensures ∙ ap (λ y. block_at y 1) c.as_chunks.ensures.back
     ∙ ap (λ k. block_at (drop k t) 1) whole ∙ block_at_drop t n (omega arith) in
     let block : c.encipher-block.result ≡ sealed_block f l t (n + 1) =
     c.encipher-block.ensures ∙ ap (λ w. masked f w c.first_block-last.result) mask ∙ ap (masked f (times (2 * (n + 1) - 1) step l)) plain in

@@ -1,7 +1,5 @@
 use Rattle.std.proofs.Common.{ap, ◌∙◌}
-use Rattle.std.proofs.lemmas.List.{take_all}
 use Rattle.std.proofs.lemmas.Slice.{pushed}
-use Rattle.text.specs.Hex.{hex_of}
 use Rattle.text.proofs.Spelling.{hex_more}
 use Rattle.text.proofs.hex.to_hex.Goals as goal
 
@@ -14,6 +12,3 @@ loop-byte-preserved c =
     let low = c.push-in-loop-byte.ensures.ascii pair.ascii.1 in
     rw (high, low) at second
     ∙ hex_more c.args.bytes.now c.loop-byte.byte-index _ _ c.loop-byte-test.true (ap (λ p. p.0) pair.is) (ap (λ p. p.1) pair.is)
-
-pub returns : goal.returns
-returns c = c.loop-byte.invariant ∙ ap hex_of (take_all _ _ c.loop-byte-test.false)

@@ -1,10 +1,7 @@
-use Rattle.std.proofs.Common.{ap, ◌∙◌}
-use Rattle.permutation.specs.Blocks.{◌⊕◌}
+use Rattle.std.proofs.Common.{rules}
 use Rattle.modes.specs.Cipher.{masked}
 use Rattle.modes.proofs.mask.Mask.decipher.Goals as goal
 
 pub returns : goal.returns
 unfolding masked
-returns g c =
-    c.xor_blocks-2.ensures
-    ∙ ap (λ y. c.args.self.bytes ⊕ y) (c.backward.ensures ∙ ap g.K.Permutation.back c.xor_blocks.ensures)
+returns g c = search rules

@@ -1,6 +1,6 @@
-use Rattle.std.proofs.Common.{◌≡◌, ◌<◌, ◌++◌, length, ap, ◌∙◌, arith, rules}
+use Rattle.std.proofs.Common.{◌≡◌, ◌++◌, ap, ◌∙◌, arith, rules}
 use Rattle.sheet.specs.Holders.{add_answer}
-use Rattle.sheet.specs.Notes.{noted, beyond, room_beyond}
+use Rattle.sheet.specs.Notes.{noted, beyond}
 use Rattle.sheet.proofs.Noting.{note_there, note_made, added}
 use Rattle.sheet.proofs.note.NoteHolderWriteBlocks.add.Goals as goal
 use Rattle.sheet.proofs.note.NoteHolderWriteBlocks.add.Goals.{then-count-eq0+in_ok-add, else-count-eq0}
@@ -21,8 +21,7 @@ returns g c =
           let is : mid ≡ old = ap (λ h. h.below) w.self-is in
           (ap m.room is, ap m.list is ∙ note_there below (omega arith))
     ] in
-    let less : length (beyond below) < room_beyond (m.room old) = omega arith in
-    let a = added (m.room old) below (m.list mid) _ c.args.block.now c.add-2.result c.if-block-ne32.false less made.1
+    let a = added (m.room old) below (m.list mid) _ c.args.block.now c.add-2.result c.in_ok-check_room.ensures made.1
     (c.add-2.ensures.value ∙ ap (λ n. add_answer n (m.list mid) c.args.block.now) made.0)
     c.add-2.ensures.after in
     search rules

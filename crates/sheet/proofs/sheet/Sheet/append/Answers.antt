@@ -1,4 +1,4 @@
-use Rattle.std.proofs.Common.{length, Ok, sym, rules}
+use Rattle.std.proofs.Common.{length, sym, rules}
 use Rattle.modes.specs.RefusalLaws.{answer_ok}
 use Rattle.sheet.specs.Calls.{under}
 use Rattle.sheet.specs.Ciphers.{Lawful}
@@ -17,8 +17,8 @@ returns g c =
     let cipher = under f b s in
     let limit = g.H.ReadBlocks.room c.args.h.now in
     let d = c.args.bytes.now in
-    let e = c.in_ok-state.ensures in
-    let taken = answer_ok (append_claims s limit bs (length d)) (appended cipher s bs d) c.in_ok-state.state (tt {0}) (sym e.value) in
+    let e = c.in_ok-self.ensures in
+    let taken = answer_ok (append_claims s limit bs (length d)) (appended cipher s bs d) _ (tt {0}) (sym e.value) in
     let laws : Lawful cipher = lawful f b g.met.K.Permutation.inverse s.key.bytes s.nonce.bytes e.keyed.0 e.keyed.1 in
     let given : AllBytes d = λ i. search rules in
     record {
@@ -27,5 +27,5 @@ returns g c =
       after = e.after;
       same_room = e.same_room;
       untouched = e.untouched;
-      stands = λ text text_label it. append_step f b s bs text text_label laws it d limit given (Ok tt) (sym taken.1) _ _ taken.0 e.after;
+      stands = λ text text_label it. append_step f b s bs text text_label laws it d limit given (sym taken.1) _ _ taken.0 e.after;
     }

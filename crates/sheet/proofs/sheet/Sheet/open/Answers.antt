@@ -1,25 +1,42 @@
-use Rattle.std.proofs.Common.{◌≡◌, length, sym, subst, rules}
+use Rattle.std.proofs.Common.{◌≡◌, length, Ok, Err, sym, ◌∙◌, subst, rules}
 use Rattle.sheet.specs.Ciphers.{cipher_of, Lawful}
 use Rattle.sheet.specs.Opening.{OpensExactly}
+use Rattle.sheet.specs.Sheets.{stated}
 use Rattle.sheet.proofs.Laws.{lawful}
-use Rattle.sheet.proofs.Openings.{Blocks, opens_exactly}
+use Rattle.sheet.proofs.Openings.{opens_exactly}
 use Rattle.sheet.proofs.sheet.Sheet.open.Goals as goal
+
+pub returns-in_err-state : goal.returns-in_err-state
+returns-in_err-state g c =
+    let f = g.K.Permutation.forth in
+    let b = g.K.Permutation.back in
+    let key = c.args.context.key.now in
+    let nonce = c.args.context.nonce.now in
+    let e = c.in_err-state.ensures in
+    let laws : length key ≡ 16 → length nonce ≡ 13 → Lawful (cipher_of f b key nonce) =
+    λ hk hn. let k = e.keyed hk hn in lawful f b g.met.K.Permutation.inverse key nonce k.0 k.1 in
+    let told : stated c.from_residual.result ≡ Err c.in_err-state.field-0.0 = search rules in
+    record {
+      value = told ∙ e.value;
+      exactly =
+          subst (OpensExactly (cipher_of f b key nonce) key nonce c.args.context.label.now c.args.tag.now (g.R.ReadBlocks.list c.args.h.now)) (sym told)
+          (opens_exactly (cipher_of f b key nonce) key nonce c.args.context.label.now c.args.tag.now (g.R.ReadBlocks.list c.args.h.now) laws (Err c.in_err-state.field-0.0)
+          tt e.value);
+    }
 
 pub returns : goal.returns
 returns g c =
     let f = g.K.Permutation.forth in
     let b = g.K.Permutation.back in
-    let key = c.args.key.now in
-    let nonce = c.args.nonce.now in
-    let label = c.args.label.now in
-    let tag = c.args.tag.now in
+    let key = c.args.context.key.now in
+    let nonce = c.args.context.nonce.now in
     let bs = g.R.ReadBlocks.list c.args.h.now in
-    let cipher = cipher_of f b key nonce in
-    let laws : length key ≡ 16 → length nonce ≡ 13 → Lawful cipher =
-    λ hk hn. lawful f b g.met.K.Permutation.inverse key nonce (hk, λ i h. search rules) (hn, λ i h. search rules) in
-    let blocks : Blocks bs = λ i h. ((g.R.ReadBlocks.bounded c.args.h.now).whole i h, λ j l. c.opened_sheet.ensures.bytes i j) in
-    let e = c.opened_sheet.ensures.value in
+    let e = c.in_ok-state.ensures in
+    let laws : length key ≡ 16 → length nonce ≡ 13 → Lawful (cipher_of f b key nonce) =
+    λ hk hn. let k = e.keyed hk hn in lawful f b g.met.K.Permutation.inverse key nonce k.0 k.1 in
     record {
-      value = e;
-      exactly = subst (λ r. OpensExactly cipher key nonce label tag bs r) (sym e) (opens_exactly cipher key nonce label tag bs laws blocks);
+      value = e.value;
+      exactly =
+          opens_exactly (cipher_of f b key nonce) key nonce c.args.context.label.now c.args.tag.now bs laws (Ok c.in_ok-state.state)
+          (λ i h. ((g.R.ReadBlocks.bounded c.args.h.now).whole i h, λ j l. e.bytes i j)) e.value;
     }

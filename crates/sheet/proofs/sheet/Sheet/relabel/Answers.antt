@@ -1,4 +1,4 @@
-use Rattle.std.proofs.Common.{Ok, sym}
+use Rattle.std.proofs.Common.{sym}
 use Rattle.modes.specs.RefusalLaws.{answer_ok}
 use Rattle.sheet.specs.Calls.{under}
 use Rattle.sheet.specs.Edits.{relabel_claims, relabelled}
@@ -12,10 +12,10 @@ returns g c =
     let s = c.args.self.now.state in
     let cipher = under f b s in
     let new = c.args.label.now in
-    let e = c.in_ok-state.ensures in
-    let taken = answer_ok (relabel_claims new) (relabelled cipher s new) c.in_ok-state.state (tt {0}) (sym e) in
+    let e = c.in_ok-self.ensures in
+    let taken = answer_ok (relabel_claims new) (relabelled cipher s new) _ (tt {0}) (sym e) in
     record {
       value = sym taken.1;
       state = taken.0;
-      stands = λ bs text text_label it. relabel_step f b s bs text text_label new it (Ok tt) (sym taken.1) _ taken.0;
+      stands = λ bs text text_label it. relabel_step f b s bs text text_label new it (sym taken.1) _ taken.0;
     }
