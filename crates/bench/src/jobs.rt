@@ -8,6 +8,7 @@ use sheet::context::Context;
 use sheet::memory::MemoryHolder;
 use sheet::received::ReceivedHolder;
 use sheet::sheet::Sheet;
+use sheet::state::block_count;
 use std::alloc::{AllocError, Global};
 use std::fmt::Display;
 
@@ -23,12 +24,13 @@ fn zeros(heap: Global, n: u32) -> Result<Vec<u8>, AllocError> {
     vec![in heap; 0u8; n as usize]
 }
 
-// Room for the blocks of a text.
+// Room for the blocks of a text: one line, as in the other programs, which share no crate with a heap and sheets.
 fn room_for(heap: Global, n: u32) -> Result<Vec<u8>, AllocError> {
-    vec![in heap; 0u8; n as usize / 32 * 32 + 32]
+    vec![in heap; 0u8; 32 * block_count(n as usize)]
 }
 
-fn mark(bytes: &mut [u8], value: u8) {
+// As `flip_first` of `vectors`: the two programs share no crate for it.
+fn xor_first(bytes: &mut [u8], value: u8) {
     if let Some(first) = bytes.first_mut() {
         *first ^= value;
     }
@@ -66,7 +68,7 @@ pub(crate) fn measure_block<N: Display + Drop, F: Fn([u8; 32]) -> [u8; 32] + Dro
     })
 }
 
-// The MAC of a plate.
+// The MAC of a plate. Meter, kind and size by themselves, here and below: a struct of them would be taken apart at once.
 pub(crate) fn measure_plate<K: Permutation>(
     meter: &mut Meter<'_>,
     kind: &str,
@@ -79,7 +81,7 @@ pub(crate) fn measure_plate<K: Permutation>(
     };
     meter.measure(format_args!("{kind} plate of {n}"), load, || {
         let [first, ..] = plate_mac::<K>(&KEY, plate.as_slice())?;
-        mark(plate.as_mut_slice(), first);
+        xor_first(plate.as_mut_slice(), first);
         Ok(first)
     })
 }
@@ -96,7 +98,7 @@ pub(crate) fn measure_sealing<K: Permutation>(
     meter.measure(format_args!("{kind} seal {n}"), load, || {
         sealed_into::<K>(text.as_slice(), room.as_mut_slice())?;
         let last = room.last().copied().unwrap_or(0);
-        mark(text.as_mut_slice(), last);
+        xor_first(text.as_mut_slice(), last);
         Ok(last)
     })
 }

@@ -47,11 +47,11 @@ impl Meter<'_> {
             }
         }
         let nanos = shortest.as_secs_f64() * 1000000000.0;
-        let call = nanos / f64::from(load.calls);
-        let byte = call / f64::from(load.bytes);
-        let rate = 1000.0 / byte;
+        let per_call = nanos / f64::from(load.calls);
+        let per_byte = per_call / f64::from(load.bytes);
+        let rate = 1000.0 / per_byte;
         eprintln!(rt;
-            "{name}: {call:.1} ns a call, {byte:.2} ns a byte, {rate:.2} million bytes a second"
+            "{name}: {per_call:.1} ns a call, {per_byte:.2} ns a byte, {rate:.2} million bytes a second"
         )?;
         println!(rt; "{name}: measured")?;
         Ok(())

@@ -65,14 +65,16 @@ impl<'a> Reader<'a> {
     }
 
     // A number that has to be in a range, bounds included; it is declined at its first byte, and not read then.
-    // Stays two bounds: a range that was iterated to its end answers otherwise, and the clauses would have to tell them apart.
+    // Two bounds, and no range: one that was iterated to its end answers otherwise, and the clauses would have to tell
+    // them apart.
     pub fn number_within(&mut self, low: usize, high: usize) -> Result<usize, Refusal>
         ensures value { result ≡ answer (bad_number low high self.old.bytes.now self.old.place ∷ []) (value_of (number_in (rest_of self.old))) }
         ensures after { self.new ≡ (if is_ok result then moved self.old (taken_of (number_in (rest_of self.old))) else self.old) }
         ensures within { IfOk result (λ n. (low ≤ n) × (n ≤ high)) }
         ensures short { self.new.place ≤ self.old.place + 3 }
     {
-        let (value, taken) = read_number(self.rest())
+        let number = read_number(self.rest());
+        let (value, taken) = number
             .filter(|(value, _)| (low..=high).contains(value))
             .ok_or_else(|| Refusal::new(Layer::Envelope, Reason::Number, self.place))?;
         self.place += taken;

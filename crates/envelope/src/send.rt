@@ -12,6 +12,7 @@ use modes::refusal::{Layer, Reason, Refusal};
 use permutation::Permutation;
 use sheet::holder::ReadBlocks;
 use sheet::sheet::Sheet;
+use sheet::state::block_count;
 
 // How long the envelope of a sheet is, with a label of so many bytes and so many blocks; the most a usize has where it is longer.
 pub fn envelope_length(label: usize, count: usize) -> usize
@@ -40,7 +41,7 @@ pub fn send<K: Permutation, R: ReadBlocks>(
     let nonce = sheet.nonce();
     let own = sheet.carries(label)?;
     let count = h.count();
-    if count != sheet.length() / BLOCK_LENGTH + 1 {
+    if count != block_count(sheet.length()) {
         return Err(Refusal::new(Layer::Sheet, Reason::BlockCount, 0));
     }
     let size = envelope_length(label.len(), count);

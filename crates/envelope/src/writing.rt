@@ -6,7 +6,7 @@ ghost use Rattle.envelope.specs.Writers.{Wrote};
 ghost use Rattle.envelope.specs.Writing.{overlaid};
 
 use crate::number::{GROUP, TOP};
-use crate::parts::{BLOCK_LENGTH, NONCE_LENGTH, TAG_LENGTH};
+use crate::parts::{NONCE_LENGTH, TAG_LENGTH};
 use crate::reader::MARK;
 use sheet::holder::ReadBlocks;
 
@@ -56,8 +56,7 @@ impl<'a> Writer<'a> {
         ensures { Wrote self.old self.new (joined (R.ReadBlocks.list h.now)) }
     {
         for k in 0..h.count() {
-            // Each block up to the count is there.
-            self.bytes(&h.block(k + 1).unwrap_or([0; BLOCK_LENGTH]));
+            self.bytes(&h.block(k + 1).unwrap());
         }
     }
 }

@@ -29,7 +29,8 @@ impl Usage {
     }
 }
 
-// The block with the bytes from `at` on replaced by `part`.
+// The block with the bytes from `at` on replaced by `part`. A function of its own: an array that was written to twice loses
+// its length to the check.
 fn placed(mut block: [u8; 32], at: usize, part: &[u8]) -> [u8; 32]
     requires { at + length part.now ≤ 32 }
     ensures { result ≡ take at block ++ (part.now ++ drop (at + length part.now) block) }

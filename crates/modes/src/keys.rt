@@ -5,7 +5,7 @@ ghost use Rattle.modes.specs.Refusals.{answer};
 
 use crate::refusal::{Layer, Reason, Refusal};
 
-// Key and nonce stay two types, and not one over the length, so that neither is taken for the other.
+// Two types, and not one over the length, so that neither is taken for the other.
 #[derive(Clone, Copy)]
 pub struct Key {
     pub bytes: [u8; 16],
@@ -26,7 +26,7 @@ pub(crate) fn array_from<const N: usize>(bytes: &[u8], reason: Reason) -> Result
 }
 
 impl Key {
-    // Stays `new`: as a `TryFrom` it would have its contract in a ghost member, and say no more.
+    // `new` and no `TryFrom`: callers have this call, and a second way in would say the same.
     pub fn new(key: &[u8]) -> Result<Key, Refusal>
         ensures { result ≡ answer (bad_key key.now ∷ []) (key_of key.now) }
     {

@@ -9,7 +9,8 @@ use crate::refusal::{Layer, Reason, Refusal};
 use crate::sums::{chained, check_length};
 use permutation::Permutation;
 
-// Whether two byte strings agree. Stays a loop: `==` may end at the first difference, and its time would tell where that is.
+// Whether two byte strings agree. By a rule of the project a `for` over the elements with their index and no early end, as
+// `==` may have: the time must not tell where they differ.
 pub fn same_bytes<const N: usize>(left: [u8; N], right: [u8; N]) -> bool
     ensures { result ≡ same left.entry right.entry }
 {

@@ -38,7 +38,7 @@ pub enum Layer {
 pub struct Refusal {
     pub reason: Reason,
     pub layer: Layer,
-    // A block, a byte or a length, as the reason has it; 0 where it has none. Stays a number: callers are told the 0.
+    // A block, a byte or a length, as the reason has it; 0 where it has none. A number and no `Option`: callers are told the 0.
     pub place: usize,
 }
 
@@ -51,7 +51,7 @@ impl Reason {
 }
 
 impl Refusal {
-    // The refusal that a call of the layer `caller` finds.
+    // The refusal that a call of the layer `caller` finds. The place is told at each call, 0 too, as the list of refusals has it.
     pub fn new(caller: Layer, reason: Reason, place: usize) -> Refusal
         ensures { result ≡ refusal caller reason place }
     {

@@ -48,6 +48,7 @@ pub(crate) fn chained<K: Permutation>(base: Mask, text: &[u8]) -> [u8; 32]
     let mut mask = base;
     let mut sum = [0u8; 32];
     for block in blocks {
+        // Named before they are assigned: a call's result may not be laid where an argument lies.
         let next = mask.stepped();
         let added = xor_blocks(sum, next.encipher::<K>(*block));
         mask = next;

@@ -60,12 +60,11 @@ impl Row for NibbleRow {
         }
     }
 
+    #[tactic(auto, using(crate::proofs::Bytes::put_sets))]
     fn write(self, block: &mut [u8; 32], at: usize) {
         let [n0, n1, n2, n3, n4, n5, n6, n7] = self.cells;
-        block[at] = n0 * 16 + n1;
-        block[at + 1] = n2 * 16 + n3;
-        block[at + 2] = n4 * 16 + n5;
-        block[at + 3] = n6 * 16 + n7;
+        let bytes = [n0 * 16 + n1, n2 * 16 + n3, n4 * 16 + n5, n6 * 16 + n7];
+        block[at..at + 4].copy_from_slice(&bytes);
     }
 
     fn zero() -> NibbleRow {

@@ -16,10 +16,10 @@ pub struct WordRow {
 impl Row for WordRow {
     ghost nibbles = { nibbles_of };
 
-    #[tactic(auto, using(crate::proofs::Bytes::read_row))]
+    #[tactic(auto, using(crate::proofs::Bytes::read_part))]
     fn read(block: &[u8; 32], at: usize) -> WordRow {
         WordRow {
-            word: u32::from_be_bytes([block[at], block[at + 1], block[at + 2], block[at + 3]]),
+            word: u32::from_be_bytes(*block[at..].first_chunk().unwrap()),
         }
     }
 

@@ -95,10 +95,11 @@ take_chunks (suc m) (suc n) bytes h = ap (λ r. take 32 bytes ∷ r) (take_chunk
 pub length_held : (count : ℕ) (xs : List ℕ) → length (held count xs) ≡ min count (room_of xs)
 length_held count xs = length_chunks (min count (room_of xs)) xs
 
-pub held_get : (count k w : ℕ) (xs : List ℕ) → w ≡ 32 → 0 < k → k ≤ length (held count xs) → take w (drop (32 * (k - 1)) xs) ≡ get_or (held count xs) (k - 1) []
-held_get count k w xs e low high =
+pub held_get : (count k : ℕ) (xs : List ℕ) (bs : List (List ℕ)) → bs ≡ chunks (length xs / 32) xs → 0 < k → k ≤ length (held count xs) → get_or bs (k - 1) [] ≡ get_or (held count xs) (k - 1) []
+held_get count k xs bs e low high =
     let h : k - 1 < min count (room_of xs) = omega (arith, length_held count xs) in
-    ap (λ n. take n (drop (32 * (k - 1)) xs)) e ∙ sym (get_or_chunks (min count (room_of xs)) xs (k - 1) [] h)
+    let inside : k - 1 < length xs / 32 = omega arith in
+    ap (λ cs. get_or cs (k - 1) []) e ∙ get_or_chunks (length xs / 32) xs (k - 1) [] inside ∙ sym (get_or_chunks (min count (room_of xs)) xs (k - 1) [] h)
 
 module _ (count : ℕ) (xs x : List ℕ) (size : length x ≡ 32) where
   pub held_put : (i : ℕ) → i < length (held count xs) → held count (overwritten xs i x) ≡ set (held count xs) i x

@@ -7,6 +7,7 @@ use Rattle.modes.specs.declared.refusal.Refusal.{Refusal}
 use Rattle.modes.specs.Keys.{key_of, nonce_of, bad_key, bad_nonce, bad_tag}
 use Rattle.modes.specs.Refusals.{Claim, claim, refusal, answer}
 use Rattle.modes.specs.Sums.{same, too_long}
+use Rattle.sheet.specs.declared.context.Context.{Context}
 use Rattle.sheet.specs.declared.state.State.{State}
 use Rattle.sheet.specs.Ciphers.{Cipher, cipher_of}
 use Rattle.sheet.specs.Holders.{block}
@@ -44,6 +45,10 @@ state_with c key nonce text_label bs n = record { key = key_of key; nonce = nonc
 -- the cipher that a sheet's state has
 abbrev pub under : (forth back : List ℕ → List ℕ) → State → Cipher
 under forth back s = cipher_of forth back s.key.bytes s.nonce.bytes
+
+-- the cipher of the key and the nonce of a context
+abbrev pub cipher_in : (forth back : List ℕ → List ℕ) → Context → Cipher
+cipher_in forth back c = cipher_of forth back c.key.now c.nonce.now
 
 -- seal: the holder comes to hold the sealed blocks of the text
 abbrev pub seal_claims : (key nonce label text : List ℕ) (limit : ℕ) (bs : List (List ℕ)) → List Claim

@@ -1,8 +1,7 @@
 // The calls of a sheet.
 ghost use Rattle.std.specs.Prelude.{◌≡◌, ℕ, false, List, length, is_ok, IfOk, if◌then◌else◌};
 ghost use Rattle.modes.specs.Refusals.{answer};
-ghost use Rattle.sheet.specs.Calls.{seal_answer, open_answer, read_answer, read_bytes, tag_answer, under};
-ghost use Rattle.sheet.specs.Ciphers.{cipher_of};
+ghost use Rattle.sheet.specs.Calls.{seal_answer, open_answer, read_answer, read_bytes, tag_answer, under, cipher_in};
 ghost use Rattle.sheet.specs.Edits.{overwritten, lengthened, shortened, write_claims, append_claims, cut_claims, relabel_claims, written, written_blocks, appended, appended_blocks, cut_back, cut_blocks, relabelled};
 ghost use Rattle.sheet.specs.Opening.{OpensExactly, Reopens};
 ghost use Rattle.sheet.specs.Sealing.{sealed};
@@ -24,11 +23,11 @@ impl<K: Permutation> Sheet<K> {
         text: &[u8],
         h: &mut H,
     ) -> Result<Sheet<K>, Refusal>
-        ensures value { stated result ≡ seal_answer (cipher_of K.Permutation.forth K.Permutation.back context.entry.key.now context.entry.nonce.now) context.entry.key.now context.entry.nonce.now context.entry.label.now text.now (H.ReadBlocks.room h.old) (H.ReadBlocks.list h.old) }
-        ensures after { H.ReadBlocks.list h.new ≡ (if is_ok result then sealed (cipher_of K.Permutation.forth K.Permutation.back context.entry.key.now context.entry.nonce.now) text.now else H.ReadBlocks.list h.old) }
+        ensures value { stated result ≡ seal_answer (cipher_in K.Permutation.forth K.Permutation.back context.entry) context.entry.key.now context.entry.nonce.now context.entry.label.now text.now (H.ReadBlocks.room h.old) (H.ReadBlocks.list h.old) }
+        ensures after { H.ReadBlocks.list h.new ≡ (if is_ok result then sealed (cipher_in K.Permutation.forth K.Permutation.back context.entry) text.now else H.ReadBlocks.list h.old) }
         ensures same_room { H.ReadBlocks.room h.new ≡ H.ReadBlocks.room h.old }
         ensures untouched { is_ok result ≡ false → h.new ≡ h.old }
-        ensures reopens { IfOk result (λ s. Reopens (cipher_of K.Permutation.forth K.Permutation.back context.entry.key.now context.entry.nonce.now) context.entry.key.now context.entry.nonce.now context.entry.label.now text.now (H.ReadBlocks.list h.new) s.state) }
+        ensures reopens { IfOk result (λ s. Reopens (cipher_in K.Permutation.forth K.Permutation.back context.entry) context.entry.key.now context.entry.nonce.now context.entry.label.now text.now (H.ReadBlocks.list h.new) s.state) }
     {
         let state = State::seal::<K, H>(context, text, h)?;
         Ok(Sheet {
@@ -39,8 +38,8 @@ impl<K: Permutation> Sheet<K> {
 
     // Opens what a holder has under a context and a tag.
     pub fn open<R: ReadBlocks>(context: Context<'_>, tag: &[u8], h: &R) -> Result<Sheet<K>, Refusal>
-        ensures value { stated result ≡ open_answer (cipher_of K.Permutation.forth K.Permutation.back context.entry.key.now context.entry.nonce.now) context.entry.key.now context.entry.nonce.now context.entry.label.now tag.now (R.ReadBlocks.list h.now) }
-        ensures exactly { OpensExactly (cipher_of K.Permutation.forth K.Permutation.back context.entry.key.now context.entry.nonce.now) context.entry.key.now context.entry.nonce.now context.entry.label.now tag.now (R.ReadBlocks.list h.now) (stated result) }
+        ensures value { stated result ≡ open_answer (cipher_in K.Permutation.forth K.Permutation.back context.entry) context.entry.key.now context.entry.nonce.now context.entry.label.now tag.now (R.ReadBlocks.list h.now) }
+        ensures exactly { OpensExactly (cipher_in K.Permutation.forth K.Permutation.back context.entry) context.entry.key.now context.entry.nonce.now context.entry.label.now tag.now (R.ReadBlocks.list h.now) (stated result) }
     {
         let state = State::open::<K, R>(context, tag, h)?;
         Ok(Sheet {

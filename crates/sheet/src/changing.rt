@@ -7,8 +7,7 @@ ghost use Rattle.sheet.specs.Standing.{Keyed};
 
 use crate::editing::Edit;
 use crate::holder::{ReadBlocks, WriteBlocks};
-use crate::sealing::MAX_TEXT;
-use crate::state::{State, block_count};
+use crate::state::{MAX_TEXT, State, block_count};
 use modes::mask::xor_blocks;
 use modes::refusal::{Layer, Reason, Refusal};
 use modes::sums::{check_length, sum_of};
@@ -28,7 +27,7 @@ impl State {
         ensures untouched { is_ok result ≡ false → h.new ≡ h.old }
         ensures keyed { OnOk result (Keyed self) }
     {
-        self.check_range::<H>(h, at, bytes.len())?;
+        self.check_range(h, at, bytes.len())?;
         if bytes.is_empty() {
             return Ok(self);
         }
@@ -47,7 +46,7 @@ impl State {
         if self.length > MAX_TEXT || amount > MAX_TEXT - self.length {
             return Err(Refusal::new(Layer::Sheet, Reason::TextLength, 0));
         }
-        self.check_count::<R>(h)?;
+        self.check_count(h)?;
         if h.limit() < block_count(self.length + amount) {
             return Err(Refusal::new(Layer::Sheet, Reason::Limit, 0));
         }
@@ -66,7 +65,7 @@ impl State {
         ensures untouched { is_ok result ≡ false → h.new ≡ h.old }
         ensures keyed { OnOk result (Keyed self) }
     {
-        self.check_append::<H>(h, bytes.len())?;
+        self.check_append(h, bytes.len())?;
         if bytes.is_empty() {
             return Ok(self);
         }
@@ -81,7 +80,7 @@ impl State {
     fn check_cut<R: ReadBlocks>(self, h: &R, amount: usize) -> Result<(), Refusal>
         ensures { result ≡ answer (cut_claims self (R.ReadBlocks.list h.now) amount) tt }
     {
-        self.check_count::<R>(h)?;
+        self.check_count(h)?;
         if amount > self.length {
             return Err(Refusal::new(Layer::Sheet, Reason::Range, 0));
         }
@@ -100,7 +99,7 @@ impl State {
         ensures untouched { is_ok result ≡ false → h.new ≡ h.old }
         ensures keyed { OnOk result (Keyed self) }
     {
-        self.check_cut::<H>(h, amount)?;
+        self.check_cut(h, amount)?;
         if amount == 0 {
             return Ok(self);
         }

@@ -28,7 +28,7 @@ impl State {
     ) -> Result<(), Refusal>
         ensures { result ≡ read_answer self (R.ReadBlocks.list h.now) at amount }
     {
-        self.check_count::<R>(h)?;
+        self.check_count(h)?;
         if at > self.length || amount > self.length - at {
             return Err(Refusal::new(Layer::Sheet, Reason::Range, 0));
         }
@@ -46,7 +46,7 @@ fn check_buffer(buffer: &[u8]) -> Result<(), Refusal>
     Ok(())
 }
 
-// Declines such a buffer, and the number of none of `count` blocks.
+// Declines such a buffer, and the number of none of `count` blocks. It takes the count, since a holder's own `get` calls it.
 pub(crate) fn check_place(count: usize, k: usize, buffer: &[u8]) -> Result<(), Refusal>
     ensures { result ≡ answer (bad_buffer buffer.now ∷ none_of count k ∷ []) tt }
 {

@@ -14,7 +14,8 @@ pub struct Context<'a> {
     pub label: &'a [u8],
 }
 
-// A key and a nonce handed in as slices.
+// A key and a nonce handed in as slices. No method of the context: of a slice in a struct the check does not know that its
+// entries are bytes. A pair, since a state has the two as fields of their own.
 pub(crate) fn keys_from(key: &[u8], nonce: &[u8]) -> Result<(Key, Nonce), Refusal>
     ensures value { result ≡ answer (bad_key key.now ∷ bad_nonce nonce.now ∷ []) (key_of key.now, nonce_of nonce.now) }
     ensures keyed { Keyable key.now nonce.now }

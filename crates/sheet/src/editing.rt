@@ -1,7 +1,6 @@
 // Edits: only the blocks that an edit alters or drops are worked. They are opened, altered and sealed anew, and the sum
 // gives up what they added and takes what they add.
-ghost use Rattle.std.specs.Prelude.{◌≡◌, ◌-◌, ◌*◌, ◌<◌, ◌≤◌, length, if◌then◌else◌};
-ghost use Rattle.modes.specs.Cipher.{masked};
+ghost use Rattle.std.specs.Prelude.{◌≡◌, ◌-◌, ◌*◌, ◌<◌, ◌≤◌, length};
 ghost use Rattle.sheet.specs.Calls.{under};
 ghost use Rattle.sheet.specs.Edits.{altered, edited};
 ghost use Rattle.sheet.specs.Laying.{laid_byte, laid_block, part_total, resealed, with_place, Resealed, laid_edit, Workable};
@@ -32,10 +31,10 @@ impl<'a> Edit<'a> {
         if i == self.length {
             return 0x80;
         }
-        if i >= self.at && i - self.at < self.bytes.len() {
-            return self.bytes[i - self.at];
-        }
-        old
+        i.checked_sub(self.at)
+            .and_then(|j| self.bytes.get(j))
+            .copied()
+            .unwrap_or(old)
     }
 
     // The padded block which i others stand before, afterwards, where `plain` stood.
@@ -44,17 +43,6 @@ impl<'a> Edit<'a> {
         ensures { result ≡ laid_block self.entry.at self.entry.bytes.now self.entry.length i plain }
     {
         array::from_fn(|j| self.byte(32 * i + j, plain[j]))
-    }
-}
-
-// What a block adds to the sum, at the mask that it adds itself at; the last is added bare.
-fn block_adds<K: Permutation>(even: Mask, block: [u8; 32], last: bool) -> [u8; 32]
-    ensures { result ≡ (if last then block else masked K.Permutation.forth even.bytes block) }
-{
-    if last {
-        block
-    } else {
-        even.encipher::<K>(block)
     }
 }
 
@@ -69,7 +57,12 @@ fn part_adds<K: Permutation, R: ReadBlocks>(start: Mask, h: &R, from: usize, to:
     let mut sum = [0u8; 32];
     for k in from..to {
         let even = mask.stepped().stepped();
-        let more = block_adds::<K>(even, held_block(h, k + 1), k + 1 == count);
+        let block = held_block(h, k + 1);
+        let more = if k + 1 == count {
+            block // the last is added bare
+        } else {
+            even.encipher::<K>(block)
+        };
         let added = xor_blocks(sum, more);
         mask = even;
         sum = added;

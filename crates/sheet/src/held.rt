@@ -9,7 +9,7 @@ pub(crate) fn held_block<R: ReadBlocks>(h: &R, k: usize) -> [u8; 32]
     requires { (0 < k) × (k ≤ length (R.ReadBlocks.list h.now)) }
     ensures { result ≡ block_of (R.ReadBlocks.list h.now) k }
 {
-    h.block(k).unwrap_or([0; 32])
+    h.block(k).unwrap()
 }
 
 // One block more.
@@ -18,7 +18,7 @@ pub(crate) fn add_block<H: WriteBlocks>(h: &mut H, block: [u8; 32])
     ensures after { H.ReadBlocks.list h.new ≡ with_more (H.ReadBlocks.list h.old) block }
     ensures same_room { H.ReadBlocks.room h.new ≡ H.ReadBlocks.room h.old }
 {
-    let _ = h.add(&block);
+    h.add(&block).unwrap();
 }
 
 // Another block in the place of block k.
@@ -27,7 +27,7 @@ pub(crate) fn put_block<H: WriteBlocks>(h: &mut H, k: usize, block: [u8; 32])
     ensures after { H.ReadBlocks.list h.new ≡ with_block (H.ReadBlocks.list h.old) k block }
     ensures same_room { H.ReadBlocks.room h.new ≡ H.ReadBlocks.room h.old }
 {
-    let _ = h.put(k, &block);
+    h.put(k, &block).unwrap();
 }
 
 // Keeps the first `count` blocks.
@@ -37,6 +37,6 @@ pub(crate) fn drop_to<H: WriteBlocks>(h: &mut H, count: usize)
     ensures same_room { H.ReadBlocks.room h.new ≡ H.ReadBlocks.room h.old }
 {
     for _k in count..h.count() {
-        let _ = h.drop_last();
+        h.drop_last().unwrap();
     }
 }

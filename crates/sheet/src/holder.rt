@@ -20,6 +20,8 @@ pub trait ReadBlocks {
         ensures { result ≡ room self.now };
 
     // Copies block k into a buffer of 32 bytes.
+    // A slice, and no array of 32 bytes, here and for the writing calls: a buffer of another length is declined by 12,
+    // and a narrower type would ask more of callers.
     fn get(&self, k: usize, out: &mut [u8]) -> Result<(), Refusal>
         ensures value { result ≡ place_answer (list self.now) k out.old }
         ensures copied { out.new ≡ (if is_ok result then block_of (list self.now) k else out.old) };
@@ -35,7 +37,8 @@ pub trait ReadBlocks {
 }
 
 // A holder that is also written. A declined call leaves the whole holder as it was.
-// That and the room are clauses of each call, since callers and implementations take clauses by name.
+// That and the room are clauses of each call, since callers and implementations take clauses by name, and each call has
+// other facts beside them.
 pub trait WriteBlocks: ReadBlocks {
     // Replaces block k.
     fn put(&mut self, k: usize, block: &[u8]) -> Result<(), Refusal>

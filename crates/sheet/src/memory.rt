@@ -36,12 +36,12 @@ pub(crate) fn copy_block(
     ensures copied { out.new ≡ (if is_ok result then block_of (held count bytes.now) k else out.old) }
 {
     check_place(count.min(capacity(bytes)), k, out)?;
-    let at = 32 * (k - 1);
-    out.copy_from_slice(&bytes[at..at + 32]);
+    out.copy_from_slice(&bytes.as_chunks::<32>().0[k - 1]);
     Ok(())
 }
 
 // Writes the block that i others stand before.
+// By its bounds: of what a slice ends as, `as_chunks_mut` says nothing.
 fn overwrite(bytes: &mut [u8], i: usize, block: &[u8])
     requires { (i < room_of bytes.old) × (length block.now ≡ 32) }
     ensures { bytes.new ≡ overwritten bytes.old i block.now }

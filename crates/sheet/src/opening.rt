@@ -2,7 +2,7 @@
 ghost use Rattle.std.specs.Prelude.{◌≡◌, ◌-◌, ◌*◌, ◌<◌, ◌≤◌, length, OnOk};
 ghost use Rattle.modes.specs.Masks.{times, step};
 ghost use Rattle.modes.specs.Sums.{xor_to};
-ghost use Rattle.sheet.specs.Calls.{last_plain, open_answer};
+ghost use Rattle.sheet.specs.Calls.{last_plain, open_answer, cipher_in};
 ghost use Rattle.sheet.specs.Ciphers.{cipher_of};
 ghost use Rattle.sheet.specs.Holders.{Sound};
 ghost use Rattle.sheet.specs.Holding.{block_adds};
@@ -30,6 +30,7 @@ fn end_of_text(block: [u8; 32]) -> Option<usize>
 }
 
 // The mask that the blocks before the last come to, and what they add to the sum.
+// Beside `part_adds`: it hands on the mask, and never meets the last block, which is added bare.
 fn inner_total<K: Permutation, R: ReadBlocks>(base: Mask, h: &R, m: usize) -> (Mask, [u8; 32])
     requires { (0 < m) × (m ≤ length (R.ReadBlocks.list h.now)) }
     ensures mask { result.0.bytes ≡ times (2 * (m - 1)) step base.bytes }
@@ -92,7 +93,7 @@ impl State {
     ) -> Result<State, Refusal>
         ensures keyed { Keyable context.entry.key.now context.entry.nonce.now }
         ensures bytes { OnOk result (Sound (R.ReadBlocks.list h.now)) }
-        ensures value { result ≡ open_answer (cipher_of K.Permutation.forth K.Permutation.back context.entry.key.now context.entry.nonce.now) context.entry.key.now context.entry.nonce.now context.entry.label.now tag.now (R.ReadBlocks.list h.now) }
+        ensures value { result ≡ open_answer (cipher_in K.Permutation.forth K.Permutation.back context.entry) context.entry.key.now context.entry.nonce.now context.entry.label.now tag.now (R.ReadBlocks.list h.now) }
     {
         let (key, nonce) = keys_from(context.key, context.nonce)?;
         let tag = tag_from(tag)?;
@@ -110,9 +111,7 @@ impl State {
         if !same_bytes(tag, right) {
             return Err(Refusal::new(Layer::Sheet, Reason::TagMismatch, 0));
         }
-        let Some(end) = end_of_text(plain) else {
-            return Err(Refusal::new(Layer::Sheet, Reason::Padding, 0));
-        };
+        let end = end_of_text(plain).ok_or(Refusal::new(Layer::Sheet, Reason::Padding, 0))?;
         Ok(State {
             key,
             nonce,

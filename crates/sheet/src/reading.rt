@@ -62,7 +62,7 @@ impl State {
         ensures value { result ≡ read_answer self (R.ReadBlocks.list h.now) at (length out.old) }
         ensures copied { out.new ≡ (if is_ok result then read_bytes (under K.Permutation.forth K.Permutation.back self) self (R.ReadBlocks.list h.now) at (length out.old) else out.old) }
     {
-        self.check_range::<R>(h, at, out.len())?;
+        self.check_range(h, at, out.len())?;
         let base = self.mask::<K>();
         copy_out::<K, R>(base, h, at, out);
         Ok(())

@@ -5,7 +5,7 @@ ghost use Rattle.modes.specs.Keys.{key_of, nonce_of};
 ghost use Rattle.modes.specs.Masks.{times, step};
 ghost use Rattle.modes.specs.Refusals.{answer};
 ghost use Rattle.modes.specs.Sums.{xor_to};
-ghost use Rattle.sheet.specs.Calls.{seal_claims, seal_answer};
+ghost use Rattle.sheet.specs.Calls.{seal_claims, seal_answer, cipher_in};
 ghost use Rattle.sheet.specs.Ciphers.{sealed_block, sealed_adds, cipher_of};
 ghost use Rattle.sheet.specs.Sealing.{blocks_in, sealed, total};
 ghost use Rattle.sheet.specs.Standing.{Keyable};
@@ -13,16 +13,13 @@ ghost use Rattle.sheet.specs.Standing.{Keyable};
 use crate::context::{Context, keys_from};
 use crate::held::add_block;
 use crate::holder::WriteBlocks;
-use crate::state::{State, block_count};
+use crate::state::{MAX_TEXT, State, block_count};
 use modes::cipher::Usage;
 use modes::keys::{Key, Nonce};
 use modes::mask::{Mask, xor_blocks};
 use modes::refusal::{Layer, Reason, Refusal};
 use modes::sums::{check_length, first_block, sum_of};
 use permutation::Permutation;
-
-// The longest text.
-pub const MAX_TEXT: usize = 131071;
 
 // Seals the blocks before the last; the mask that this comes to, and what they add to the sum.
 fn seal_inner<K: Permutation, H: WriteBlocks>(
@@ -102,12 +99,12 @@ impl State {
         h: &mut H,
     ) -> Result<State, Refusal>
         ensures keyed { Keyable context.entry.key.now context.entry.nonce.now }
-        ensures value { result ≡ seal_answer (cipher_of K.Permutation.forth K.Permutation.back context.entry.key.now context.entry.nonce.now) context.entry.key.now context.entry.nonce.now context.entry.label.now text.now (H.ReadBlocks.room h.old) (H.ReadBlocks.list h.old) }
-        ensures after { H.ReadBlocks.list h.new ≡ (if is_ok result then sealed (cipher_of K.Permutation.forth K.Permutation.back context.entry.key.now context.entry.nonce.now) text.now else H.ReadBlocks.list h.old) }
+        ensures value { result ≡ seal_answer (cipher_in K.Permutation.forth K.Permutation.back context.entry) context.entry.key.now context.entry.nonce.now context.entry.label.now text.now (H.ReadBlocks.room h.old) (H.ReadBlocks.list h.old) }
+        ensures after { H.ReadBlocks.list h.new ≡ (if is_ok result then sealed (cipher_in K.Permutation.forth K.Permutation.back context.entry) text.now else H.ReadBlocks.list h.old) }
         ensures same_room { H.ReadBlocks.room h.new ≡ H.ReadBlocks.room h.old }
         ensures untouched { is_ok result ≡ false → h.new ≡ h.old }
     {
-        let (key, nonce) = check_seal::<H>(context, text, h)?;
+        let (key, nonce) = check_seal(context, text, h)?;
         let label = sum_of::<K>(key, context.label);
         let blocks = seal_blocks::<K, H>(key, nonce, text, h);
         Ok(State {

@@ -9,6 +9,9 @@ use modes::keys::{Key, Nonce};
 use modes::mask::Mask;
 use permutation::Permutation;
 
+// The longest text.
+pub const MAX_TEXT: usize = 131071;
+
 #[derive(Clone, Copy)]
 pub struct State {
     pub key: Key,
@@ -21,7 +24,7 @@ pub struct State {
 }
 
 // How many blocks a text has, its padding included.
-pub(crate) fn block_count(length: usize) -> usize
+pub fn block_count(length: usize) -> usize
     ensures { result ≡ blocks_in length }
 {
     length / 32 + 1

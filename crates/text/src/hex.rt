@@ -31,16 +31,11 @@ impl<T: Drop> From<AllocFailed<T>> for HexError {
     }
 }
 
-// The value of a digit, of either case. Stays written out: `to_digit` takes a char and gives a u32, which would be cast twice.
+// The value of a digit, of either case.
 pub fn hex_digit(b: u8) -> Option<u8>
     ensures { result ≡ digit_of b }
 {
-    match b {
-        b'0'..=b'9' => Some(b - b'0'),
-        b'A'..=b'F' => Some(b - b'A' + 10),
-        b'a'..=b'f' => Some(b - b'a' + 10),
-        _ => None,
-    }
+    char::from(b).to_digit(16).map(|digit| digit as u8)
 }
 
 // The lower-case digit of a value.

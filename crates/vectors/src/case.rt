@@ -37,17 +37,22 @@ impl From<HexError> for Fault {
 }
 
 impl From<ParseIntError> for Fault {
+    ghost from_gives = { λ _ r. r ≡ Malformed };
+
     fn from(_e: ParseIntError) -> Fault {
         Fault::Malformed
     }
 }
 
 impl From<TryFromSliceError> for Fault {
+    ghost from_gives = { λ _ r. r ≡ Malformed };
+
     fn from(_e: TryFromSliceError) -> Fault {
         Fault::Malformed
     }
 }
 
+// Two impls, and by hand: the library has two types for it, and clauses name the error that a `?` makes.
 impl From<AllocError> for Fault {
     ghost from_gives = { λ _ r. r ≡ Memory };
 
@@ -130,7 +135,7 @@ pub(crate) fn number_up_to(word: &str, most: usize) -> Result<usize, Fault>
     Ok(number)
 }
 
-// Stays a function: only the cipher's own crate could give its `Usage` a `FromStr`, and that crate reads no names.
+// A function and no `FromStr`: only the cipher's own crate could give its `Usage` one, and that crate reads no names.
 pub(crate) fn usage_of(word: &str) -> Result<Usage, Fault>
     ensures { MatchResult result (λ u. word.now ≡ usage_name u) (λ e. e ≡ Malformed) }
 {

@@ -10,6 +10,7 @@ use sheet::holder::{ReadBlocks, WriteBlocks};
 use sheet::memory::MemoryHolder;
 use sheet::received::ReceivedHolder;
 use sheet::sheet::Sheet;
+use sheet::state::block_count;
 use std::alloc::{AllocError, Global};
 use text::hex::to_hex;
 
@@ -19,22 +20,22 @@ const MAX_READ: usize = 200000;
 // The most blocks that a holder keeps.
 const MAX_BLOCKS: usize = 4096;
 
-// What a sheet is sealed and opened under.
+// A context with its bytes: what a sheet is sealed and opened under.
 #[derive(Drop)]
-struct Under {
+struct OwnedContext {
     key: Vec<u8>,
     nonce: Vec<u8>,
     label: Vec<u8>,
 }
 
-impl Under {
-    fn read(heap: Global, key: &str, nonce: &str, label: &str) -> Result<Under, Fault>
+impl OwnedContext {
+    fn read(heap: Global, key: &str, nonce: &str, label: &str) -> Result<OwnedContext, Fault>
         ensures { IfOk result (λ u. Writes key.now u.key.items × Writes nonce.now u.nonce.items) }
     {
         let key = bytes_of(heap, key)?;
         let nonce = bytes_of(heap, nonce)?;
         let label = long_bytes_of(heap, label)?;
-        Ok(Under { key, nonce, label })
+        Ok(OwnedContext { key, nonce, label })
     }
 
     fn context(&self) -> Context<'_>
@@ -52,11 +53,11 @@ impl Under {
     // Seals a text into just as much room as its blocks take, and goes on with its sheet.
     fn sealed<
         K: Permutation,
-        F: FnOnce(Under, Sheet<K>, &mut MemoryHolder<'_>) -> Result<String, Fault> + Drop,
+        F: FnOnce(OwnedContext, Sheet<K>, &mut MemoryHolder<'_>) -> Result<String, Fault> + Drop,
     >(self, heap: Global, text: &[u8], then: F) -> Result<String, Fault>
         requires { F.IsAlwaysCallable then }
     {
-        let count = (text.len() / 32).min(MAX_BLOCKS - 1) + 1;
+        let count = block_count(text.len()).min(MAX_BLOCKS);
         let mut room = vec![in heap; 0u8; 32 * count]?;
         let mut holder = MemoryHolder::new(room.as_mut_slice(), 0);
         let sheet = Sheet::<K>::seal(self.context(), text, &mut holder)?;
@@ -119,7 +120,7 @@ fn excerpt(heap: Global, bytes: &[u8]) -> Result<String, AllocError> {
     }
 }
 
-// The cases that seal or open a sheet: each begins with what that is done under.
+// The cases that seal or open a sheet: each begins with its context.
 pub(crate) fn sheet_case<K: Permutation>(
     heap: Global,
     name: &str,
@@ -128,20 +129,20 @@ pub(crate) fn sheet_case<K: Permutation>(
     let [key, nonce, label, rest @ ..] = words else {
         return Err(Fault::Malformed);
     };
-    let under = Under::read(heap, key, nonce, label)?;
+    let owned = OwnedContext::read(heap, key, nonce, label)?;
     match (name, rest) {
-        ("seal", [limit, count, text]) => seal_case::<K>(heap, under, limit, count, text),
-        ("open", [tag, blocks]) => open_case::<K>(heap, under, tag, blocks),
-        ("reopen", [text, at, n]) => reopen_case::<K>(heap, under, text, Part::read(at, n)?),
-        ("stale", [text, at, n]) => stale_case::<K>(heap, under, text, Part::read(at, n)?),
-        ("spoilt", [text, what]) => spoilt_case::<K>(heap, under, text, what),
+        ("seal", [limit, count, text]) => seal_case::<K>(heap, owned, limit, count, text),
+        ("open", [tag, blocks]) => open_case::<K>(heap, owned, tag, blocks),
+        ("reopen", [text, at, n]) => reopen_case::<K>(heap, owned, text, Part::read(at, n)?),
+        ("stale", [text, at, n]) => stale_case::<K>(heap, owned, text, Part::read(at, n)?),
+        ("spoilt", [text, what]) => spoilt_case::<K>(heap, owned, text, what),
         _ => Err(Fault::Malformed),
     }
 }
 
 fn seal_case<K: Permutation>(
     heap: Global,
-    under: Under,
+    owned: OwnedContext,
     limit: &str,
     count: &str,
     text: &str,
@@ -151,7 +152,7 @@ fn seal_case<K: Permutation>(
     let text = long_bytes_of(heap, text)?;
     let mut room = vec![in heap; 0u8; 32 * limit]?;
     let mut holder = MemoryHolder::new(room.as_mut_slice(), count);
-    let sheet = Sheet::<K>::seal(under.context(), text.as_slice(), &mut holder)?;
+    let sheet = Sheet::<K>::seal(owned.context(), text.as_slice(), &mut holder)?;
     let tag = to_hex(heap, &sheet.tag())?;
     let count = holder.count();
     let first = block_word(heap, &holder, 1)?;
@@ -161,7 +162,7 @@ fn seal_case<K: Permutation>(
 
 fn open_case<K: Permutation>(
     heap: Global,
-    under: Under,
+    owned: OwnedContext,
     tag: &str,
     blocks: &str,
 ) -> Result<String, Fault> {
@@ -171,7 +172,7 @@ fn open_case<K: Permutation>(
         return Err(Fault::Malformed);
     }
     let holder = ReceivedHolder::new(blocks.as_slice());
-    let sheet = Sheet::<K>::open(under.context(), tag.as_slice(), &holder)?;
+    let sheet = Sheet::<K>::open(owned.context(), tag.as_slice(), &holder)?;
     let length = sheet.length();
     let mut text = vec![in heap; 0u8; length]?;
     sheet.read(&holder, 0, text.as_mut_slice())?;
@@ -181,13 +182,13 @@ fn open_case<K: Permutation>(
 
 fn reopen_case<K: Permutation>(
     heap: Global,
-    under: Under,
+    owned: OwnedContext,
     text: &str,
     part: Part,
 ) -> Result<String, Fault> {
     let text = long_bytes_of(heap, text)?;
-    under.sealed(heap, text.as_slice(), |under, sheet: Sheet<K>, holder| {
-        let sheet = Sheet::<K>::open(under.context(), &sheet.tag(), holder)?;
+    owned.sealed(heap, text.as_slice(), |owned, sheet: Sheet<K>, holder| {
+        let sheet = Sheet::<K>::open(owned.context(), &sheet.tag(), holder)?;
         let shown = part.word(heap, &sheet, holder)?;
         let tag = to_hex(heap, &sheet.tag())?;
         let length = sheet.length();
@@ -198,12 +199,12 @@ fn reopen_case<K: Permutation>(
 // A sheet whose holder lost its last block since it was sealed.
 fn stale_case<K: Permutation>(
     heap: Global,
-    under: Under,
+    owned: OwnedContext,
     text: &str,
     part: Part,
 ) -> Result<String, Fault> {
     let text = long_bytes_of(heap, text)?;
-    under.sealed(heap, text.as_slice(), |_under, sheet: Sheet<K>, holder| {
+    owned.sealed(heap, text.as_slice(), |_owned, sheet: Sheet<K>, holder| {
         holder.drop_last()?;
         part.word(heap, &sheet, holder)
     })
@@ -211,18 +212,18 @@ fn stale_case<K: Permutation>(
 
 fn spoilt_case<K: Permutation>(
     heap: Global,
-    under: Under,
+    owned: OwnedContext,
     text: &str,
     what: &str,
 ) -> Result<String, Fault> {
     let text = long_bytes_of(heap, text)?;
-    under.sealed(
+    owned.sealed(
         heap,
         text.as_slice(),
-        |mut under, sheet: Sheet<K>, holder| {
+        |mut owned, sheet: Sheet<K>, holder| {
             let mut tag = sheet.tag();
-            spoil(what, &mut under, &mut tag, holder)?;
-            let length = Sheet::<K>::open(under.context(), &tag, holder)?.length();
+            spoil(what, &mut owned, &mut tag, holder)?;
+            let length = Sheet::<K>::open(owned.context(), &tag, holder)?.length();
             Ok(format!(in heap; "{length}")?)
         },
     )
@@ -230,14 +231,14 @@ fn spoilt_case<K: Permutation>(
 
 fn spoil<H: WriteBlocks>(
     what: &str,
-    under: &mut Under,
+    owned: &mut OwnedContext,
     tag: &mut [u8; 16],
     h: &mut H,
 ) -> Result<(), Fault> {
     match what {
-        "key" => flip_first(under.key.as_mut_slice()),
-        "nonce" => flip_first(under.nonce.as_mut_slice()),
-        "label" => under.label.push(0)?,
+        "key" => flip_first(owned.key.as_mut_slice()),
+        "nonce" => flip_first(owned.nonce.as_mut_slice()),
+        "label" => owned.label.push(0)?,
         "tag" => tag[15] ^= 0x80,
         "drop" => h.drop_last()?,
         _ => {

@@ -1,8 +1,7 @@
 // The library's calls on a sheet whose sealed blocks lie in memory, one after the other.
 ghost use Rattle.std.specs.Prelude.{◌≡◌, ◌-◌, min, length, is_ok, if◌then◌else◌};
-ghost use Rattle.sheet.specs.Calls.{open_answer, read_answer, read_bytes, under};
+ghost use Rattle.sheet.specs.Calls.{open_answer, read_answer, read_bytes, under, cipher_in};
 ghost use Rattle.sheet.specs.Chunks.{room_of, wholes, overwritten};
-ghost use Rattle.sheet.specs.Ciphers.{cipher_of};
 ghost use Rattle.sheet.specs.Holders.{block as block_of};
 ghost use Rattle.sheet.specs.Sheets.{stated};
 ghost use Rattle.vestmortar.specs.Sheets.{seal_tag, flip_answer, flipped, Reads};
@@ -15,6 +14,7 @@ use sheet::holder::{ReadBlocks, WriteBlocks};
 use sheet::memory::MemoryHolder;
 use sheet::received::ReceivedHolder;
 use sheet::sheet::Sheet;
+use sheet::state::MAX_TEXT;
 use std::alloc::Global;
 
 // Seals a text into bytes with room for its blocks: the library's tag, or its refusal.
@@ -36,7 +36,7 @@ pub(crate) fn open_bytes<K: Permutation>(
     tag: &[u8],
     bytes: &[u8],
 ) -> Result<Sheet<K>, Refusal>
-    ensures { stated result ≡ open_answer (cipher_of K.Permutation.forth K.Permutation.back context.entry.key.now context.entry.nonce.now) context.entry.key.now context.entry.nonce.now context.entry.label.now tag.now (wholes bytes.now) }
+    ensures { stated result ≡ open_answer (cipher_in K.Permutation.forth K.Permutation.back context.entry) context.entry.key.now context.entry.nonce.now context.entry.label.now tag.now (wholes bytes.now) }
 {
     let holder = ReceivedHolder::new(bytes);
     Sheet::<K>::open(context, tag, &holder)
@@ -56,7 +56,7 @@ fn read_bytes<K: Permutation>(
     sheet.read(&holder, at, out)
 }
 
-// Reads into a buffer of its own, which need not be longer than any text: a read of 131072 bytes is always declined.
+// Reads into a buffer of its own, at most a byte longer than any text: so long a read is always declined.
 pub(crate) fn read_part<K: Permutation>(
     heap: Global,
     sheet: &Sheet<K>,
@@ -66,7 +66,7 @@ pub(crate) fn read_part<K: Permutation>(
 ) -> Result<Vec<u8>, Failure>
     ensures { Reads K.Permutation.forth K.Permutation.back sheet.now.state (wholes bytes.now) at (min amount 131072) result }
 {
-    let mut out = vec![in heap; 0u8; amount.min(131072)]?;
+    let mut out = vec![in heap; 0u8; amount.min(MAX_TEXT + 1)]?;
     read_bytes(sheet, bytes, at, out.as_mut_slice())?;
     Ok(out)
 }

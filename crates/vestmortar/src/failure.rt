@@ -92,6 +92,7 @@ impl From<io::Error> for Failure {
     }
 }
 
+// Two impls, and by hand: the library has two types for it, and clauses name the error that a `?` makes.
 impl From<AllocError> for Failure {
     ghost from_gives = { λ _ r. r ≡ Memory };
 

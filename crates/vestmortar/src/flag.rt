@@ -28,7 +28,7 @@ impl Flag {
         Flag::Block,
     ];
 
-    pub fn name(self) -> &'static str
+    pub(crate) fn name(self) -> &'static str
         ensures { result.now ≡ flag_name self }
     {
         match self {
@@ -56,6 +56,7 @@ impl FromStr for Flag {
 
     ghost from_str_gives = { λ word r. IsFlag word r };
 
+    // Written out, and no search of `ALL` by name: of a search the check does not find which word gives which option.
     fn from_str(word: &str) -> Result<Flag, UnknownName> {
         match word {
             "--key" => Ok(Flag::Key),

@@ -16,6 +16,7 @@ use modes::refusal::Refusal;
 use permutation::Permutation;
 use sheet::context::Context;
 use sheet::sheet::Sheet;
+use sheet::state::block_count;
 use std::alloc::{AllocError, Global};
 use text::hex::to_hex;
 
@@ -27,11 +28,12 @@ pub struct Kept {
     tag: [u8; 16],
 }
 
-// Room for the blocks of a text, and for no more than a sheet can have.
+// Room for the blocks of a text, and for no more than a sheet can have. Each program has such a line: they share no crate
+// with a heap and sheets.
 fn room_for(heap: Global, text: &[u8]) -> Result<Vec<u8>, AllocError>
     ensures { IfOk result (λ v. room_of v.items ≡ min (blocks_in (length text.now)) 4096) }
 {
-    let count = (text.len() / 32 + 1).min(4096);
+    let count = block_count(text.len()).min(4096);
     vec![in heap; 0u8; 32 * count]
 }
 

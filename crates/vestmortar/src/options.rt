@@ -1,7 +1,8 @@
 // The options that a command's words give.
-ghost use Rattle.std.specs.Prelude.{◌≡◌, None, OnOk, is_some};
+ghost use Rattle.std.specs.Prelude.{◌≡◌, ◌≢◌, Some, None, OnOk, is_some};
 ghost use Rattle.std.specs.Option.{ok_or};
 ghost use Rattle.vestmortar.specs.declared.failure.Misuse.TheVariants.{Missing};
+ghost use Rattle.vestmortar.specs.declared.flag.Flag.{Flag};
 ghost use Rattle.vestmortar.specs.Options.{value_of, given, without, all_flags, only_answer};
 
 use crate::failure::{Failure, Misuse};
@@ -10,7 +11,8 @@ use crate::flag::Flag;
 // The options and the file that a command's words name.
 #[derive(Default, Drop)]
 pub struct Options {
-    // The value of each option, at its flag's place. No map, which could run out of memory where an option is given.
+    // The value of each option, at its flag's place. No map: it is no plainer, and `give` too could then fail for want of
+    // memory.
     values: [Option<String>; 7],
     pub file: Option<String>,
 }
@@ -42,10 +44,13 @@ impl Options {
         Ok(())
     }
 
-    // Taken only once.
+    // Taken only once. A match, as in `no_file`.
     fn give(&mut self, flag: Flag, value: String) -> Result<(), Failure>
         ensures after { self.new ≡ given flag value self.old }
         ensures once { OnOk result (value_of flag self.old ≡ None) }
+        ensures now { value_of flag self.new ≡ Some value }
+        ensures others { (f : Flag) → f ≢ flag → value_of f self.new ≡ value_of f self.old }
+        ensures file { self.new.file ≡ self.old.file }
     {
         match self.values[flag.place()].replace(value) {
             Some(_) => Err(Misuse::Twice(flag).into()),
@@ -74,6 +79,9 @@ impl Options {
     pub(crate) fn take(&mut self, flag: Flag) -> Option<String>
         ensures value { result ≡ value_of flag self.old }
         ensures after { self.new ≡ without flag self.old }
+        ensures now { value_of flag self.new ≡ None }
+        ensures others { (f : Flag) → f ≢ flag → value_of f self.new ≡ value_of f self.old }
+        ensures file { self.new.file ≡ self.old.file }
     {
         self.values[flag.place()].take()
     }
@@ -85,7 +93,7 @@ impl Options {
         self.take(flag).ok_or(Misuse::Missing(flag))
     }
 
-    // A decimal number; a sign is none of its digits.
+    // A decimal number; a sign is none of its digits. The test program reads one by two such lines, with an error of its own.
     pub(crate) fn number(&mut self, flag: Flag) -> Result<usize, Misuse> {
         let digits = self.required(flag)?;
         if digits.as_str().starts_with("+") {
@@ -94,7 +102,7 @@ impl Options {
         digits.as_str().parse().map_err(|_| Misuse::NotNumber(flag))
     }
 
-    // For a command that takes no file. A match, since no method of an Option makes what it holds an error.
+    // For a command that takes no file. A match: `map_or` with both outcomes is no plainer.
     pub(crate) fn no_file(&mut self) -> Result<(), Misuse> {
         match self.file.take() {
             Some(word) => Err(Misuse::ExtraWord(word)),

@@ -63,7 +63,7 @@ fn key_in(heap: Global, name: String, text: &[u8]) -> Result<Vec<u8>, Failure>
 }
 
 pub(crate) fn read_key(rt: &HostRuntime, name: String) -> Result<Vec<u8>, Failure> {
-    // Stays a match: each arm gives the name away.
+    // A match, and no `map_err`: each arm gives the name away.
     match fs::read(rt, name.as_str()) {
         Ok(text) => key_in(rt.alloc(), name, text.as_slice()),
         Err(error) => Err(Failure::Unreadable(Some(name), error)),

@@ -10,7 +10,7 @@ found g c =
     let s = c.args.sheet.now.state in
     let h = c.args.h.now in
     ready _ _ s _ (g.R.ReadBlocks.room h) _ _ c.count-count.result _ (g.R.ReadBlocks.bounded h) (ap length (sym c.nonce-nonce.ensures) ∙ search rules)
-    c.in_ok-own.ensures c.count-count.ensures.value (omega (arith, c.if-count-length.false, c.length.ensures)) c.envelope_length-size.ensures
+    c.in_ok-own.ensures c.count-count.ensures.value (omega (arith, c.if-count-block_count.false, c.block_count.ensures, c.length.ensures)) c.envelope_length-size.ensures
 
 pub returns-then-out-size : goal.returns-then-out-size
 returns-then-out-size g c =
