@@ -66,14 +66,36 @@ def shape(body):
     return tuple(t if t in KEYWORDS or not re.match(r'\w|"', t) else "_" for t in tokens)
 
 
-def point_1(path, text):
-    for number, line in code_lines(text):
-        if re.search(r"\b\w+: bool\b", line) and "let " not in line:
-            yield f"{path}:{number}", "a flag: " + line.strip()
-        if re.search(r"\bErr\(\w+\) => (return )?Err\(|if let Err\(|None => (return )?(Err|None)\b|Some\(\w+\) => (Ok|Some|Err)\(|Err\(_\) => Err", line):
-            yield f"{path}:{number}", "an outcome passed on by hand: " + line.strip()
-        if re.search(r"as u\d+ == .* as u\d+|Result<[^<>]*, u(8|16|32|64|size)>", line):
-            yield f"{path}:{number}", "a number for a kind: " + line.strip()
+def by_patterns(*patterns):
+    """A finder of the lines in which a pattern stands, each with what that is called."""
+
+    def find(path, text):
+        for number, line in code_lines(text):
+            for name, pattern in patterns:
+                if re.search(pattern, line):
+                    yield f"{path}:{number}", f"{name}: {line.strip()}"
+
+    return find
+
+
+point_1 = by_patterns(
+    ("a flag", r"^(?!.*\blet ).*\b\w+: bool\b"),
+    (
+        "an outcome passed on by hand",
+        r"\bErr\(\w+\) => (return )?Err\(|if let Err\(|None => (return )?(Err|None)\b"
+        r"|Some\(\w+\) => (Ok|Some|Err)\(|Err\(_\) => Err",
+    ),
+    ("a number for a kind", r"as u\d+ == .* as u\d+|Result<[^<>]*, u(8|16|32|64|size)>"),
+)
+
+point_4 = by_patterns(
+    ("a copy", r"copy_from_slice"),
+    ("an equality", r"\[0\] != .*\[1\] !="),
+    (
+        "an impl",
+        r"^impl.* (From<.*>|TryFrom<.*>|FromStr|PartialEq|PartialOrd|Ord|Clone|Default|fmt::Display|fmt::Debug) for ",
+    ),
+)
 
 
 def point_3(path, text):
@@ -92,16 +114,6 @@ def point_3(path, text):
             body.append(later)
         if re.search(r"\[[^\]]*\b" + variable + r"\b[^\]]*\]", "\n".join(body)):
             yield f"{path}:{number}", line.strip()
-
-
-def point_4(path, text):
-    for number, line in code_lines(text):
-        if "copy_from_slice" in line:
-            yield f"{path}:{number}", "a copy: " + line.strip()
-        if re.search(r"\[0\] != .*\[1\] !=", line):
-            yield f"{path}:{number}", "an equality: " + line.strip()
-        if re.search(r"^impl.* (From<.*>|TryFrom<.*>|FromStr|PartialEq|PartialOrd|Ord|Clone|Default|fmt::Display|fmt::Debug) for ", line):
-            yield f"{path}:{number}", "an impl: " + line.strip()
 
 
 def point_6(path, text):
