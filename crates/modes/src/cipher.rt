@@ -59,7 +59,9 @@ impl Mask {
         }
     }
 
-    // The mask after i steps and j turns.
+    // The mask after i steps and j turns. Compiled by itself: inlined into the calls of a sheet, its loop takes three times
+    // the instructions.
+    #[inline(never)]
     pub fn at(self, i: usize, j: usize) -> Mask
         ensures { result.bytes ≡ mask i j self.bytes }
     {

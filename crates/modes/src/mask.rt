@@ -29,8 +29,7 @@ impl Mask {
         ensures { result.bytes ≡ step self.bytes }
     {
         let old = self.bytes;
-        let mut bytes = [0; 32];
-        bytes[..31].copy_from_slice(&old[1..]);
+        let mut bytes: [u8; 32] = array::from_fn(|i| old[(i + 1) % 32]);
         bytes[31] = doubled(old[0]);
         bytes[28] ^= old[0];
         bytes[29] ^= old[0];

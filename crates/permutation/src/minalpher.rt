@@ -1,5 +1,5 @@
 // Minalpher-P at any number of rounds.
-ghost use Rattle.std.specs.Prelude.{◌≡◌, refl};
+ghost use Rattle.std.specs.Prelude.{◌≡◌, ℕ, refl};
 ghost use Rattle.permutation.specs.Minalpher.{forward, backward};
 ghost use Rattle.permutation.specs.Inverses;
 
@@ -14,6 +14,54 @@ pub trait FullRounds: Permutation {
     ghost full_forth: { Self.Permutation.forth ≡ forward 17 };
 
     ghost full_back: { Self.Permutation.back ≡ backward 17 };
+}
+
+// A number of rounds as a type: one can be computed from another's, which no const argument can.
+pub trait Rounds {
+    ghost number: { ℕ };
+
+    fn count() -> usize
+        ensures { result ≡ number };
+}
+
+#[derive(Clone, Copy)]
+pub struct Seventeen;
+
+#[derive(Clone, Copy)]
+pub struct One;
+
+#[derive(Clone, Copy)]
+pub struct Zero;
+
+impl Rounds for Seventeen {
+    ghost number = { 17 };
+
+    fn count() -> usize {
+        17 // the whole permutation
+    }
+}
+
+impl Rounds for One {
+    ghost number = { 1 };
+
+    fn count() -> usize {
+        1
+    }
+}
+
+impl Rounds for Zero {
+    ghost number = { 0 };
+
+    fn count() -> usize {
+        0
+    }
+}
+
+// A kind that has as many rounds as `R` says, whatever its name and its parameters are.
+pub trait HasRounds<R: Rounds>: Permutation {
+    ghost told_forth: { Self.Permutation.forth ≡ forward R.Rounds.number };
+
+    ghost told_back: { Self.Permutation.back ≡ backward R.Rounds.number };
 }
 
 // The permutation with `ROUNDS` rounds, on rows that are kept as `W`.
@@ -39,8 +87,34 @@ impl<W: Row, const ROUNDS: usize> Permutation for MinalpherP<W, ROUNDS> {
     }
 }
 
-// On rows of nibbles.
+// The same with as many rounds as `R` says.
+pub struct Counted<W, R> {
+    rows: PhantomData<W>,
+    rounds: PhantomData<R>,
+}
+
+impl<W: Row, R: Rounds> Permutation for Counted<W, R> {
+    ghost forth = { forward R.Rounds.number };
+
+    ghost back = { backward R.Rounds.number };
+
+    ghost inverse = { Inverses.inverse R.Rounds.number };
+
+    #[tactic(auto, unfolding(crate::specs::Minalpher::forward))]
+    fn forward(block: [u8; 32]) -> [u8; 32] {
+        State::<W>::read(&block).rounds(R::count()).closed()
+    }
+
+    #[tactic(auto, unfolding(crate::specs::Minalpher::backward))]
+    fn backward(block: [u8; 32]) -> [u8; 32] {
+        State::<W>::read(&block).rounds_back(R::count()).closed()
+    }
+}
+
+// On rows of nibbles, and the same by a type of rounds.
 pub type Matrices<const ROUNDS: usize> = MinalpherP<NibbleRow, ROUNDS>;
+
+pub type MatricesOf<R> = Counted<NibbleRow, R>;
 
 // The permutation itself.
 pub type Minalpher = Matrices<17>;
@@ -54,4 +128,16 @@ impl FullRounds for Minalpher {
 // Two short ones for checks by hand.
 pub type OneRound = Matrices<1>;
 
+impl HasRounds<One> for OneRound {
+    ghost told_forth = { refl };
+
+    ghost told_back = { refl };
+}
+
 pub type ZeroRounds = Matrices<0>;
+
+impl HasRounds<Zero> for ZeroRounds {
+    ghost told_forth = { refl };
+
+    ghost told_back = { refl };
+}

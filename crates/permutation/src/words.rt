@@ -3,7 +3,7 @@ ghost use Rattle.std.specs.Prelude.{◌≡◌, refl};
 ghost use Rattle.permutation.specs.Minalpher.{xor_row};
 ghost use Rattle.permutation.specs.Kept.{nibbles_of};
 
-use crate::minalpher::{FullRounds, MinalpherP};
+use crate::minalpher::{Counted, FullRounds, MinalpherP};
 use crate::rows::{IndexList, Row};
 use std::ops::BitXor;
 
@@ -122,8 +122,10 @@ impl BitXor for WordRow {
     }
 }
 
-// On rows in words.
+// On rows in words, and the same by a type of rounds.
 pub type Words<const ROUNDS: usize> = MinalpherP<WordRow, ROUNDS>;
+
+pub type WordsOf<R> = Counted<WordRow, R>;
 
 pub type RowWords = Words<17>;
 

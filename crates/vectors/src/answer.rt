@@ -126,12 +126,12 @@ fn tweaked<F: FnOnce(&[u8], Tweak<'_>, &[u8]) -> Result<[u8; 32], Refusal> + Dro
     let [key, usage, nonce, i, j, block] = words else {
         return Err(Fault::Malformed);
     };
+    // The short words first: where one is malformed, the long ones cost nothing.
+    let usage = usage_of(usage)?;
+    let i = number_of(i)?;
+    let j = number_of(j)?;
     let [key, nonce, block] = [*key, *nonce, *block].try_map(|word| bytes_of(heap, word))?;
-    let tweak = Tweak {
-        usage: usage_of(usage)?,
-        nonce: nonce.as_slice(),
-        i: number_of(i)?,
-        j: number_of(j)?,
-    };
+    let nonce = nonce.as_slice();
+    let tweak = Tweak { usage, nonce, i, j };
     shown(heap, &cipher(key.as_slice(), tweak, block.as_slice())?)
 }

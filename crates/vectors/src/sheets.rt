@@ -1,5 +1,8 @@
 // The cases that seal, open and read sheets.
 ghost use Rattle.std.specs.Prelude.{◌≡◌, IfOk, string_bytes};
+ghost use Rattle.sheet.specs.Calls.{seal_answer, open_answer};
+ghost use Rattle.sheet.specs.Ciphers.{cipher_of};
+ghost use Rattle.sheet.specs.Sheets.{stated};
 ghost use Rattle.vectors.specs.Lines.{Writes, word_of as word_for};
 
 use crate::case::{Fault, bytes_of, long_bytes_of, number_of, number_up_to};
@@ -50,6 +53,22 @@ impl OwnedContext {
         }
     }
 
+    fn seal<K: Permutation, H: WriteBlocks>(
+        &self,
+        text: &[u8],
+        h: &mut H,
+    ) -> Result<Sheet<K>, Refusal>
+        ensures { stated result ≡ seal_answer (cipher_of K.Permutation.forth K.Permutation.back self.now.key.items self.now.nonce.items) self.now.key.items self.now.nonce.items self.now.label.items text.now (H.ReadBlocks.room h.old) (H.ReadBlocks.list h.old) }
+    {
+        Sheet::<K>::seal(self.context(), text, h)
+    }
+
+    fn open<K: Permutation, R: ReadBlocks>(&self, tag: &[u8], h: &R) -> Result<Sheet<K>, Refusal>
+        ensures { stated result ≡ open_answer (cipher_of K.Permutation.forth K.Permutation.back self.now.key.items self.now.nonce.items) self.now.key.items self.now.nonce.items self.now.label.items tag.now (R.ReadBlocks.list h.now) }
+    {
+        Sheet::<K>::open(self.context(), tag, h)
+    }
+
     // Seals a text into just as much room as its blocks take, and goes on with its sheet.
     fn sealed<
         K: Permutation,
@@ -60,7 +79,7 @@ impl OwnedContext {
         let count = block_count(text.len()).min(MAX_BLOCKS);
         let mut room = vec![in heap; 0u8; 32 * count]?;
         let mut holder = MemoryHolder::new(room.as_mut_slice(), 0);
-        let sheet = Sheet::<K>::seal(self.context(), text, &mut holder)?;
+        let sheet = self.seal::<K, MemoryHolder>(text, &mut holder)?;
         then(self, sheet, &mut holder)
     }
 }
@@ -129,13 +148,14 @@ pub(crate) fn sheet_case<K: Permutation>(
     let [key, nonce, label, rest @ ..] = words else {
         return Err(Fault::Malformed);
     };
-    let owned = OwnedContext::read(heap, key, nonce, label)?;
+    // Read only where the case is one: a name or a number of words that is none costs nothing more.
+    let owned = || OwnedContext::read(heap, key, nonce, label);
     match (name, rest) {
-        ("seal", [limit, count, text]) => seal_case::<K>(heap, owned, limit, count, text),
-        ("open", [tag, blocks]) => open_case::<K>(heap, owned, tag, blocks),
-        ("reopen", [text, at, n]) => reopen_case::<K>(heap, owned, text, Part::read(at, n)?),
-        ("stale", [text, at, n]) => stale_case::<K>(heap, owned, text, Part::read(at, n)?),
-        ("spoilt", [text, what]) => spoilt_case::<K>(heap, owned, text, what),
+        ("seal", [limit, count, text]) => seal_case::<K>(heap, owned()?, limit, count, text),
+        ("open", [tag, blocks]) => open_case::<K>(heap, owned()?, tag, blocks),
+        ("reopen", [text, at, n]) => reopen_case::<K>(heap, owned()?, text, Part::read(at, n)?),
+        ("stale", [text, at, n]) => stale_case::<K>(heap, owned()?, text, Part::read(at, n)?),
+        ("spoilt", [text, what]) => spoilt_case::<K>(heap, owned()?, text, what),
         _ => Err(Fault::Malformed),
     }
 }
@@ -152,7 +172,7 @@ fn seal_case<K: Permutation>(
     let text = long_bytes_of(heap, text)?;
     let mut room = vec![in heap; 0u8; 32 * limit]?;
     let mut holder = MemoryHolder::new(room.as_mut_slice(), count);
-    let sheet = Sheet::<K>::seal(owned.context(), text.as_slice(), &mut holder)?;
+    let sheet = owned.seal::<K, MemoryHolder>(text.as_slice(), &mut holder)?;
     let tag = to_hex(heap, &sheet.tag())?;
     let count = holder.count();
     let first = block_word(heap, &holder, 1)?;
@@ -172,7 +192,7 @@ fn open_case<K: Permutation>(
         return Err(Fault::Malformed);
     }
     let holder = ReceivedHolder::new(blocks.as_slice());
-    let sheet = Sheet::<K>::open(owned.context(), tag.as_slice(), &holder)?;
+    let sheet = owned.open::<K, ReceivedHolder>(tag.as_slice(), &holder)?;
     let length = sheet.length();
     let mut text = vec![in heap; 0u8; length]?;
     sheet.read(&holder, 0, text.as_mut_slice())?;
@@ -188,7 +208,7 @@ fn reopen_case<K: Permutation>(
 ) -> Result<String, Fault> {
     let text = long_bytes_of(heap, text)?;
     owned.sealed(heap, text.as_slice(), |owned, sheet: Sheet<K>, holder| {
-        let sheet = Sheet::<K>::open(owned.context(), &sheet.tag(), holder)?;
+        let sheet = owned.open::<K, MemoryHolder>(&sheet.tag(), holder)?;
         let shown = part.word(heap, &sheet, holder)?;
         let tag = to_hex(heap, &sheet.tag())?;
         let length = sheet.length();
@@ -223,7 +243,7 @@ fn spoilt_case<K: Permutation>(
         |mut owned, sheet: Sheet<K>, holder| {
             let mut tag = sheet.tag();
             spoil(what, &mut owned, &mut tag, holder)?;
-            let length = Sheet::<K>::open(owned.context(), &tag, holder)?.length();
+            let length = owned.open::<K, MemoryHolder>(&tag, holder)?.length();
             Ok(format!(in heap; "{length}")?)
         },
     )

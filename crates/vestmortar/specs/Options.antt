@@ -58,6 +58,10 @@ only_answer taken o [] = Ok tt
 only_answer taken o (flag ∷ flags) =
     if is_some (value_of flag o) && not (is_among taken flag) then Err (NotTaken flag) else only_answer taken o flags
 
+-- no option is given but those that are taken
+abbrev pub TakesOnly : List Flag → Options → Type 0
+TakesOnly taken o = only_answer taken o all_flags ≡ Ok tt
+
 -- no option of a sheet is given
 abbrev pub NoSheetOptions : Options → Type 0
 NoSheetOptions o = (value_of Nonce o ≡ None) × (value_of Label o ≡ None) × (value_of At o ≡ None) × (value_of Bytes o ≡ None) × (value_of Block o ≡ None)

@@ -1,4 +1,8 @@
 // A command of a sheet from its words.
+ghost use Rattle.std.specs.Prelude.{[], ◌∷◌, OnOk};
+ghost use Rattle.vestmortar.specs.declared.flag.Flag.TheVariants.{Key, Tag, Nonce, Label, At, Bytes, Block};
+ghost use Rattle.vestmortar.specs.Options.{TakesOnly};
+
 use crate::digits::{Place, read_hex};
 use crate::failure::{Failure, Misuse};
 use crate::flag::Flag;
@@ -31,7 +35,9 @@ pub enum SheetCommand {
     },
 }
 
-fn seal_command(heap: Global, mut options: Options) -> Result<SheetCommand, Failure> {
+fn seal_command(heap: Global, mut options: Options) -> Result<SheetCommand, Failure>
+    ensures { OnOk result (TakesOnly (Key ∷ Nonce ∷ Label ∷ []) options) }
+{
     options.only(&[Flag::Key, Flag::Nonce, Flag::Label])?;
     let key = options.required(Flag::Key)?;
     let digits = options.required(Flag::Nonce)?;
@@ -45,13 +51,17 @@ fn seal_command(heap: Global, mut options: Options) -> Result<SheetCommand, Fail
     })
 }
 
-fn show_command(mut options: Options) -> Result<SheetCommand, Failure> {
+fn show_command(mut options: Options) -> Result<SheetCommand, Failure>
+    ensures { OnOk result (TakesOnly [] options) }
+{
     options.only(&[])?;
     options.no_file()?;
     Ok(SheetCommand::Show)
 }
 
-fn open_command(heap: Global, mut options: Options) -> Result<SheetCommand, Failure> {
+fn open_command(heap: Global, mut options: Options) -> Result<SheetCommand, Failure>
+    ensures { OnOk result (TakesOnly (Key ∷ Label ∷ Tag ∷ []) options) }
+{
     options.only(&[Flag::Key, Flag::Label, Flag::Tag])?;
     options.no_file()?;
     Ok(SheetCommand::Open {
@@ -64,7 +74,9 @@ fn open_command(heap: Global, mut options: Options) -> Result<SheetCommand, Fail
     })
 }
 
-fn read_command(mut options: Options) -> Result<SheetCommand, Failure> {
+fn read_command(mut options: Options) -> Result<SheetCommand, Failure>
+    ensures { OnOk result (TakesOnly (Key ∷ Label ∷ At ∷ Bytes ∷ []) options) }
+{
     options.only(&[Flag::Key, Flag::Label, Flag::At, Flag::Bytes])?;
     options.no_file()?;
     Ok(SheetCommand::Read {
@@ -75,7 +87,9 @@ fn read_command(mut options: Options) -> Result<SheetCommand, Failure> {
     })
 }
 
-fn damage_command(mut options: Options) -> Result<SheetCommand, Failure> {
+fn damage_command(mut options: Options) -> Result<SheetCommand, Failure>
+    ensures { OnOk result (TakesOnly (Block ∷ []) options) }
+{
     options.only(&[Flag::Block])?;
     options.no_file()?;
     Ok(SheetCommand::Damage {
