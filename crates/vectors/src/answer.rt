@@ -126,12 +126,16 @@ fn tweaked<F: FnOnce(&[u8], Tweak<'_>, &[u8]) -> Result<[u8; 32], Refusal> + Dro
     let [key, usage, nonce, i, j, block] = words else {
         return Err(Fault::Malformed);
     };
-    // The short words first: where one is malformed, the long ones cost nothing.
+    // Word by word, and not the bytes first: what stands behind a malformed word is not read.
+    let key = bytes_of(heap, key)?;
     let usage = usage_of(usage)?;
-    let i = number_of(i)?;
-    let j = number_of(j)?;
-    let [key, nonce, block] = [*key, *nonce, *block].try_map(|word| bytes_of(heap, word))?;
-    let nonce = nonce.as_slice();
-    let tweak = Tweak { usage, nonce, i, j };
+    let nonce = bytes_of(heap, nonce)?;
+    let tweak = Tweak {
+        usage,
+        nonce: nonce.as_slice(),
+        i: number_of(i)?,
+        j: number_of(j)?,
+    };
+    let block = bytes_of(heap, block)?;
     shown(heap, &cipher(key.as_slice(), tweak, block.as_slice())?)
 }

@@ -153,8 +153,8 @@ pub(crate) fn sheet_case<K: Permutation>(
     match (name, rest) {
         ("seal", [limit, count, text]) => seal_case::<K>(heap, owned()?, limit, count, text),
         ("open", [tag, blocks]) => open_case::<K>(heap, owned()?, tag, blocks),
-        ("reopen", [text, at, n]) => reopen_case::<K>(heap, owned()?, text, Part::read(at, n)?),
-        ("stale", [text, at, n]) => stale_case::<K>(heap, owned()?, text, Part::read(at, n)?),
+        ("reopen", [text, at, n]) => reopen_case::<K>(heap, owned()?, text, at, n),
+        ("stale", [text, at, n]) => stale_case::<K>(heap, owned()?, text, at, n),
         ("spoilt", [text, what]) => spoilt_case::<K>(heap, owned()?, text, what),
         _ => Err(Fault::Malformed),
     }
@@ -167,9 +167,9 @@ fn seal_case<K: Permutation>(
     count: &str,
     text: &str,
 ) -> Result<String, Fault> {
+    let text = long_bytes_of(heap, text)?;
     let limit = number_up_to(limit, MAX_BLOCKS)?;
     let count = number_up_to(count, limit)?;
-    let text = long_bytes_of(heap, text)?;
     let mut room = vec![in heap; 0u8; 32 * limit]?;
     let mut holder = MemoryHolder::new(room.as_mut_slice(), count);
     let sheet = owned.seal::<K, MemoryHolder>(text.as_slice(), &mut holder)?;
@@ -204,9 +204,11 @@ fn reopen_case<K: Permutation>(
     heap: Global,
     owned: OwnedContext,
     text: &str,
-    part: Part,
+    at: &str,
+    length: &str,
 ) -> Result<String, Fault> {
     let text = long_bytes_of(heap, text)?;
+    let part = Part::read(at, length)?;
     owned.sealed(heap, text.as_slice(), |owned, sheet: Sheet<K>, holder| {
         let sheet = owned.open::<K, MemoryHolder>(&sheet.tag(), holder)?;
         let shown = part.word(heap, &sheet, holder)?;
@@ -221,9 +223,11 @@ fn stale_case<K: Permutation>(
     heap: Global,
     owned: OwnedContext,
     text: &str,
-    part: Part,
+    at: &str,
+    length: &str,
 ) -> Result<String, Fault> {
     let text = long_bytes_of(heap, text)?;
+    let part = Part::read(at, length)?;
     owned.sealed(heap, text.as_slice(), |_owned, sheet: Sheet<K>, holder| {
         holder.drop_last()?;
         part.word(heap, &sheet, holder)
